@@ -1,0 +1,12 @@
+use borrow.Author.Needs.{needs}
+use Rattle.word.proofs.Firsts.{first-yes, first-no, first-end}
+use Rattle.word.proofs.table.find_immediately_coded.Needs as need
+
+pub returns-then-is-immediately-coded : need.returns-then-is-immediately-coded
+returns-then-is-immediately-coded c = search (needs, first-yes)
+
+pub loop-m-again : need.loop-m-again
+loop-m-again c = search (needs, first-no)
+
+pub returns : need.returns
+returns c = search (needs, first-end)

@@ -1,0 +1,5 @@
+pub mod Registers
+pub mod Table
+pub mod Words
+pub mod Laws
+pub mod Arithmetic
