@@ -1,0 +1,7 @@
+use mathlib.Core.Path.{refl}
+use borrow.Author.Needs.{needs}
+use Rattle.std.proofs.shelf.Lists.{take-more-set}
+use Rattle.lister.proofs.line.Line.push.Needs as need
+
+pub returns : need.returns
+returns c = record { text = search (needs, take-more-set); size = refl }
