@@ -1,3 +1,4 @@
 pub mod Lines
 pub mod Scratch
 pub mod Answers
+pub mod Reports

@@ -55,7 +55,8 @@ fn number_line(operation: Operation, a: Register, n: u8) -> Line
     line
 }
 
-fn line_of(fields: Fields) -> Line
+/// The line with these fields.
+pub fn line_of(fields: Fields) -> Line
     ensures text { λ r. ⌜ held r ≡ lineOfFields fields ⌝ }
     ensures size { λ r. ⌜ r .len ≤ 16 ⌝ }
 {
