@@ -12,13 +12,35 @@ use word::Width;
 use word::decode;
 
 const REGISTERS: [[u16; 8]; 2] = [
-    [0x0000, 0x0001, 0x7FFF, 0x8000, 0xFFFF, 0x1234, 0x00FF, 0xABCD],
-    [0xFF80, 0x8001, 0x0002, 0x7FFE, 0x0000, 0xC0DE, 0x5555, 0xAAAA],
+    [
+        0x0000,
+        0x0001,
+        0x7FFF,
+        0x8000,
+        0xFFFF,
+        0x1234,
+        0x00FF,
+        0xABCD,
+    ],
+    [
+        0xFF80,
+        0x8001,
+        0x0002,
+        0x7FFE,
+        0x0000,
+        0xC0DE,
+        0x5555,
+        0xAAAA,
+    ],
 ];
 
 fn hex_digit(n: u16) -> u8 {
     let digit = (n % 16) as u8;
-    if digit < 10 { b'0' + digit } else { b'a' + (digit - 10) }
+    if digit < 10 {
+        b'0' + digit
+    } else {
+        b'a' + (digit - 10)
+    }
 }
 
 fn push_hex(out: &mut Vec<u8>, n: u16) -> Result<(), AllocError> {
@@ -37,13 +59,21 @@ fn push_effect(out: &mut Vec<u8>, effect: Effect) -> Result<(), AllocError> {
             out.push(b'=')?;
             push_hex(out, value)
         }
-        Effect::Load { number, width, address } => {
+        Effect::Load {
+            number,
+            width,
+            address,
+        } => {
             out.extend_from_slice(b" r")?;
             out.push(hex_digit(number as u16))?;
             push_width(out, b"<-", width)?;
             push_hex(out, address)
         }
-        Effect::Store { width, address, value } => {
+        Effect::Store {
+            width,
+            address,
+            value,
+        } => {
             out.push(b' ')?;
             push_hex(out, value)?;
             push_width(out, b"->", width)?;

@@ -61,8 +61,17 @@ pub fn line_of(fields: Fields) -> Line
     ensures size { λ r. ⌜ r .len ≤ 16 ⌝ }
 {
     match fields {
-        Fields::Registers { operation, rst, rsa, rsb } => register_line(operation, rst, rsa, rsb),
-        Fields::Immediate { operation, rst, immediate } => number_line(operation, rst, immediate),
+        Fields::Registers {
+            operation,
+            rst,
+            rsa,
+            rsb,
+        } => register_line(operation, rst, rsa, rsb),
+        Fields::Immediate {
+            operation,
+            rst,
+            immediate,
+        } => number_line(operation, rst, immediate),
     }
 }
 

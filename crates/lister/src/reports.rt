@@ -42,7 +42,10 @@ pub fn word_in(text: &[u8]) -> Option<u16>
 fn add_malformed(heap: Global, number: u64, out: &mut Vec<u8>) -> Result<bool, AllocError>
     ensures { λ r. ⌜ Added r false (reportFor number None) (vec-items (now (out .entry))) (vec-items (now (out .exit))) ⌝ }
 {
-    let message = format!(heap, "line {number}: not a word, four hexadecimal digits expected\n")?;
+    let message = format!(
+        heap,
+        "line {number}: not a word, four hexadecimal digits expected\n"
+    )?;
     out.extend_from_slice(message.as_bytes())?;
     Ok(false)
 }

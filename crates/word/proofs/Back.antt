@@ -67,9 +67,9 @@ registers-back : (x : Operation) (rst rsa rsb : Register) (i : Instruction)
 registers-back x rst rsa rsb i e =
     let at = placed x in (
       registers-fields (row x .opcode) rst (at .opcode-fits) rsa rsb (row x .op2) (at .op2-fits)
-      ∙ ap (λ o. ofRegisters o rst rsa rsb) (at .found)
-      ∙ ap (λ s. cond (keepsZero s rst rsa rsb) (withRegisters x rst rsa rsb) None) (shaped x)
-      ∙ e,
+          ∙ ap (λ o. ofRegisters o rst rsa rsb) (at .found)
+          ∙ ap (λ s. cond (keepsZero s rst rsa rsb) (withRegisters x rst rsa rsb) None) (shaped x)
+          ∙ e,
       registers-fit (row x .opcode) rst (at .opcode-fits) rsa rsb (row x .op2) (at .op2-fits),
     )
 

@@ -10,7 +10,7 @@ use crate::table::Extension;
 pub fn zero_extend(byte: u8) -> u16
     ensures { λ r. ⌜ r ≡ zeroExtend byte ⌝ }
 {
-    byte as u16
+    u16::from(byte)
 }
 
 /// A byte with its bit 7 repeated above it.
@@ -18,9 +18,9 @@ pub fn sign_extend(byte: u8) -> u16
     ensures { λ r. ⌜ r ≡ signExtend byte ⌝ }
 {
     if byte < 0x80 {
-        byte as u16
+        zero_extend(byte)
     } else {
-        0xFF00 + byte as u16
+        0xFF00 + zero_extend(byte)
     }
 }
 
@@ -95,11 +95,11 @@ pub fn compute(computation: Computation, a: u16, b: u16) -> u16
     }
 }
 
-/// What ldr puts into its register: b, its extended immediate.
-pub fn ldr(b: u16) -> u16
-    ensures { λ r. ⌜ r ≡ ldr b ⌝ }
+/// What ldr puts into its register: its extended immediate.
+pub fn ldr(immediate: u16) -> u16
+    ensures { λ r. ⌜ r ≡ ldr immediate ⌝ }
 {
-    b
+    immediate
 }
 
 /// What ldc puts into its register: a moved up a byte, with b added below it.
@@ -121,9 +121,9 @@ pub fn asr(a: u16) -> u16
     ensures { λ r. ⌜ r ≡ asr a ⌝ }
 {
     if a < 0x8000 {
-        a >> 1
+        lsr(a)
     } else {
-        0x8000 + (a >> 1)
+        0x8000 + lsr(a)
     }
 }
 

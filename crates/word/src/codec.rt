@@ -4,7 +4,7 @@ ghost use Prim.Native.Nat.{_+_, _*_, _/_, _%_, _<_};
 ghost use Rattle.std.specs.declared.option.Option.the-variants.{Some};
 ghost use Rattle.word.specs.Registers.{register};
 ghost use Rattle.word.specs.Table.{coded, immediatelyCoded};
-ghost use Rattle.word.specs.Words.{registerWord, immediateWord, fields, encoded, keepsZero, isZero, withRegisters, withImmediate, ofRegisters, ofImmediate, decoded};
+ghost use Rattle.word.specs.Words.{registerWord, immediateWord, fields, encoded, keepsZero, withRegisters, withImmediate, ofRegisters, ofImmediate, decoded};
 ghost use Rattle.word.specs.Laws.{Gives, DecodesBack, EncodesBack};
 use crate::instructions::Fields;
 use crate::instructions::Instruction;
@@ -27,12 +27,6 @@ impl Register {
     {
         self.number
     }
-
-    fn is_zero(self) -> bool
-        ensures { λ r. ⌜ r ≡ isZero self ⌝ }
-    {
-        self.number == 0
-    }
 }
 
 impl Instruction {
@@ -42,52 +36,87 @@ impl Instruction {
     {
         let zero = Register::of_bits(0);
         match self {
-            Instruction::Compute { computation, target, left, right } => Fields::Registers {
+            Instruction::Compute {
+                computation,
+                target,
+                left,
+                right,
+            } => Fields::Registers {
                 operation: Operation::Computes(computation),
                 rst: target,
                 rsa: left,
                 rsb: right,
             },
-            Instruction::ComputeImmediate { computation, register, immediate } => Fields::Immediate {
+            Instruction::ComputeImmediate {
+                computation,
+                register,
+                immediate,
+            } => Fields::Immediate {
                 operation: Operation::Computes(computation),
                 rst: register,
                 immediate,
             },
-            Instruction::Shift { shift, target, source } => Fields::Registers {
+            Instruction::Shift {
+                shift,
+                target,
+                source,
+            } => Fields::Registers {
                 operation: Operation::Shifts(shift),
                 rst: target,
                 rsa: source,
                 rsb: zero,
             },
-            Instruction::Load { width, target, address } => Fields::Registers {
+            Instruction::Load {
+                width,
+                target,
+                address,
+            } => Fields::Registers {
                 operation: Operation::Loads(width),
                 rst: target,
                 rsa: zero,
                 rsb: address,
             },
-            Instruction::Store { width, source, address } => Fields::Registers {
+            Instruction::Store {
+                width,
+                source,
+                address,
+            } => Fields::Registers {
                 operation: Operation::Stores(width),
                 rst: zero,
                 rsa: source,
                 rsb: address,
             },
-            Instruction::Branch { condition, tested, target } => Fields::Registers {
+            Instruction::Branch {
+                condition,
+                tested,
+                target,
+            } => Fields::Registers {
                 operation: Operation::Branches(condition),
                 rst: zero,
                 rsa: tested,
                 rsb: target,
             },
-            Instruction::BranchImmediate { condition, tested, immediate } => Fields::Immediate {
+            Instruction::BranchImmediate {
+                condition,
+                tested,
+                immediate,
+            } => Fields::Immediate {
                 operation: Operation::Branches(condition),
                 rst: tested,
                 immediate,
             },
-            Instruction::LoadRegister { register, immediate } => Fields::Immediate {
+            Instruction::LoadRegister {
+                register,
+                immediate,
+            } => Fields::Immediate {
                 operation: Operation::LoadsRegister,
                 rst: register,
                 immediate,
             },
-            Instruction::LoadConstant { register, immediate } => Fields::Immediate {
+            Instruction::LoadConstant {
+                register,
+                immediate,
+            } => Fields::Immediate {
                 operation: Operation::LoadsConstant,
                 rst: register,
                 immediate,
@@ -127,11 +156,20 @@ pub fn encode(instruction: Instruction) -> u16
     ensures back { λ r. ⌜ decoded r ≡ Some instruction ⌝ }
 {
     match instruction.fields() {
-        Fields::Registers { operation, rst, rsa, rsb } => {
+        Fields::Registers {
+            operation,
+            rst,
+            rsa,
+            rsb,
+        } => {
             let row = operation.mnemonic();
             register_word(row.opcode, rst, rsa, rsb, row.op2)
         }
-        Fields::Immediate { operation, rst, immediate } => {
+        Fields::Immediate {
+            operation,
+            rst,
+            immediate,
+        } => {
             let row = operation.mnemonic();
             immediate_word(row.opcode, rst, immediate)
         }
@@ -143,15 +181,20 @@ fn keeps_zero(shape: Shape, rst: Register, rsa: Register, rsb: Register) -> bool
 {
     match shape {
         Shape::ThreeRegisters => true,
-        Shape::LastZero => rsb.is_zero(),
-        Shape::MiddleZero => rsa.is_zero(),
-        Shape::FirstZero => rst.is_zero(),
-        Shape::NoOperands => rst.is_zero() && rsa.is_zero() && rsb.is_zero(),
+        Shape::LastZero => rsb.number() == 0,
+        Shape::MiddleZero => rsa.number() == 0,
+        Shape::FirstZero => rst.number() == 0,
+        Shape::NoOperands => rst.number() == 0 && rsa.number() == 0 && rsb.number() == 0,
         Shape::NumberOnly => false,
     }
 }
 
-fn with_registers(operation: Operation, rst: Register, rsa: Register, rsb: Register) -> Option<Instruction>
+fn with_registers(
+    operation: Operation,
+    rst: Register,
+    rsa: Register,
+    rsb: Register,
+) -> Option<Instruction>
     ensures { λ r. ⌜ r ≡ withRegisters operation rst rsa rsb ⌝ }
 {
     match operation {
@@ -161,10 +204,26 @@ fn with_registers(operation: Operation, rst: Register, rsa: Register, rsb: Regis
             left: rsa,
             right: rsb,
         }),
-        Operation::Shifts(shift) => Some(Instruction::Shift { shift, target: rst, source: rsa }),
-        Operation::Loads(width) => Some(Instruction::Load { width, target: rst, address: rsb }),
-        Operation::Stores(width) => Some(Instruction::Store { width, source: rsa, address: rsb }),
-        Operation::Branches(condition) => Some(Instruction::Branch { condition, tested: rsa, target: rsb }),
+        Operation::Shifts(shift) => Some(Instruction::Shift {
+            shift,
+            target: rst,
+            source: rsa,
+        }),
+        Operation::Loads(width) => Some(Instruction::Load {
+            width,
+            target: rst,
+            address: rsb,
+        }),
+        Operation::Stores(width) => Some(Instruction::Store {
+            width,
+            source: rsa,
+            address: rsb,
+        }),
+        Operation::Branches(condition) => Some(Instruction::Branch {
+            condition,
+            tested: rsa,
+            target: rsb,
+        }),
         Operation::LoadsRegister | Operation::LoadsConstant => None,
         Operation::Halts => Some(Instruction::Halt),
     }
@@ -179,14 +238,31 @@ fn with_immediate(operation: Operation, rst: Register, immediate: u8) -> Option<
             register: rst,
             immediate,
         }),
-        Operation::Branches(condition) => Some(Instruction::BranchImmediate { condition, tested: rst, immediate }),
-        Operation::LoadsRegister => Some(Instruction::LoadRegister { register: rst, immediate }),
-        Operation::LoadsConstant => Some(Instruction::LoadConstant { register: rst, immediate }),
-        Operation::Shifts(_) | Operation::Loads(_) | Operation::Stores(_) | Operation::Halts => None,
+        Operation::Branches(condition) => Some(Instruction::BranchImmediate {
+            condition,
+            tested: rst,
+            immediate,
+        }),
+        Operation::LoadsRegister => Some(Instruction::LoadRegister {
+            register: rst,
+            immediate,
+        }),
+        Operation::LoadsConstant => Some(Instruction::LoadConstant {
+            register: rst,
+            immediate,
+        }),
+        Operation::Shifts(_) | Operation::Loads(_) | Operation::Stores(_) | Operation::Halts =>
+            None,
     }
 }
 
-fn decode_registers(opcode: u8, op2: u8, rst: Register, rsa: Register, rsb: Register) -> Option<Instruction>
+fn decode_registers(
+    opcode: u8,
+    op2: u8,
+    rst: Register,
+    rsa: Register,
+    rsb: Register,
+) -> Option<Instruction>
     ensures { λ r. ⌜ r ≡ ofRegisters (coded opcode op2) rst rsa rsb ⌝ }
 {
     let operation = Operation::coded(opcode, op2)?;
@@ -223,5 +299,4 @@ pub fn decode(word: u16) -> Option<Instruction>
 pub fn codec_stands()
     ensures back { λ _. ⌜ DecodesBack ⌝ }
     ensures forth { λ _. ⌜ EncodesBack ⌝ }
-{
-}
+{}

@@ -1,10 +1,8 @@
 // What a valid word says, as types: what cannot be written here has no word.
 use crate::registers::Register;
-use crate::registers::RegisterDebug;
-use crate::registers::RegisterPartialEq;
 
 /// What a computing word works out of its values A and B.
-#[derive(Clone, Copy, Debug, PartialEq)]
+#[derive(Clone, Copy)]
 pub enum Computation {
     And,
     Or,
@@ -18,7 +16,7 @@ pub enum Computation {
 }
 
 /// A shift right by one place.
-#[derive(Clone, Copy, Debug, PartialEq)]
+#[derive(Clone, Copy)]
 pub enum Shift {
     /// A zero comes in at bit 15.
     Lsr,
@@ -27,21 +25,21 @@ pub enum Shift {
 }
 
 /// How much a load or a store moves.
-#[derive(Clone, Copy, Debug, PartialEq)]
+#[derive(Clone, Copy)]
 pub enum Width {
     Byte,
     Word,
 }
 
 /// When a branch is taken.
-#[derive(Clone, Copy, Debug, PartialEq)]
+#[derive(Clone, Copy)]
 pub enum Condition {
     Zero,
     NotZero,
 }
 
 /// What a mnemonic stands for.
-#[derive(Clone, Copy, Debug, PartialEq)]
+#[derive(Clone, Copy)]
 pub enum Operation {
     Computes(Computation),
     Shifts(Shift),
@@ -57,7 +55,7 @@ pub enum Operation {
 }
 
 /// The instruction of a valid word. An immediate is the word's low byte as it stands there.
-#[derive(Clone, Copy, Debug, PartialEq)]
+#[derive(Clone, Copy)]
 pub enum Instruction {
     Compute {
         computation: Computation,
@@ -107,7 +105,7 @@ pub enum Instruction {
 }
 
 /// An instruction's operands in the order of the word's fields.
-#[derive(Clone, Copy, Debug, PartialEq)]
+#[derive(Clone, Copy)]
 pub enum Fields {
     /// Imm is 0: Rst, RsA and RsB.
     Registers {

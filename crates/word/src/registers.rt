@@ -2,7 +2,7 @@
 ghost use Prim.Native.Nat.{_<_};
 
 /// One of the eight registers, by its number: 0 to 7.
-#[derive(Clone, Copy, Debug, PartialEq)]
+#[derive(Clone, Copy)]
 pub struct Register {
     pub(crate) number: u8,
     ghost small: { number < 8 },

@@ -7,12 +7,11 @@ ghost use Rattle.word.specs.Table.{row, rowIn, entryIn, entries, position, fir
 use crate::instructions::Computation;
 use crate::instructions::Condition;
 use crate::instructions::Operation;
-use crate::instructions::OperationDebug;
 use crate::instructions::Shift;
 use crate::instructions::Width;
 
 /// Which operands stand in the register fields.
-#[derive(Clone, Copy, Debug, PartialEq)]
+#[derive(Clone, Copy)]
 pub enum Shape {
     /// Rst, RsA and RsB are free.
     ThreeRegisters,
@@ -29,7 +28,7 @@ pub enum Shape {
 }
 
 /// How the low byte of a word with Imm 1 becomes the value B.
-#[derive(Clone, Copy, Debug, PartialEq)]
+#[derive(Clone, Copy)]
 pub enum Extension {
     /// The mnemonic has no form with an immediate.
     Absent,
@@ -38,7 +37,7 @@ pub enum Extension {
 }
 
 /// A row of the table.
-#[derive(Clone, Copy, Debug)]
+#[derive(Clone, Copy)]
 pub struct Mnemonic {
     pub name: &'static str,
     pub opcode: u8,
@@ -48,6 +47,8 @@ pub struct Mnemonic {
     pub operation: Operation,
 }
 
+// One row a line, so that it reads as a table.
+#[rattlefmt::skip]
 const MNEMONICS: [Mnemonic; 18] = [
     Mnemonic { name: "and", opcode: 0, op2: 0, shape: Shape::ThreeRegisters, immediate: Extension::ZeroExtended, operation: Operation::Computes(Computation::And) },
     Mnemonic { name: "or", opcode: 1, op2: 0, shape: Shape::ThreeRegisters, immediate: Extension::ZeroExtended, operation: Operation::Computes(Computation::Or) },
@@ -201,5 +202,4 @@ impl Operation {
 pub fn table_stands()
     ensures names { λ _. ⌜ NamesStand ⌝ }
     ensures codes { λ _. ⌜ CodesStand ⌝ }
-{
-}
+{}

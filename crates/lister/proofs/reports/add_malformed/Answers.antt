@@ -7,5 +7,5 @@ pub returns : need.returns
 returns c = (
   refl,
   c .in-Continue-extend-from-slice .ensures tt .items
-  ∙ ap (λ t. vec-items (c .args .out .now) ++ t) (c .as-bytes .ensures .value ∙ c .in-Continue-message .ensures tt .made),
+      ∙ ap (λ t. vec-items (c .args .out .now) ++ t) (c .as-bytes .ensures .value ∙ c .in-Continue-message .ensures tt .made),
 )
