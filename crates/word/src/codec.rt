@@ -24,6 +24,7 @@ impl Register {
     pub fn number(self) -> u8
         ensures value { λ r. ⌜ r ≡ self .number ⌝ }
         ensures small { λ r. ⌜ r < 8 ⌝ }
+        ensures back { λ r. ⌜ register r ≡ self ⌝ }
     {
         self.number
     }

@@ -1,0 +1,3 @@
+pub mod Steps
+pub mod Every
+pub mod Caps

@@ -1,0 +1,5 @@
+pub mod Characters
+pub mod Cuts
+pub mod Names
+pub mod Numbers
+pub mod Operands
