@@ -3,3 +3,5 @@ pub mod Cuts
 pub mod Names
 pub mod Numbers
 pub mod Operands
+pub mod Mnemonics
+pub mod Rows
