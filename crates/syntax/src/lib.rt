@@ -1,5 +1,6 @@
 // What the lines of a text say, one by one.
 mod cuts;
+mod instructions;
 mod mnemonics;
 mod names;
 mod numbers;
@@ -8,6 +9,7 @@ mod rows;
 
 pub use cuts::Separator;
 pub use cuts::cut;
+pub use instructions::read_instruction;
 pub use mnemonics::Mnemonic;
 pub use mnemonics::Pseudo;
 pub use mnemonics::read_mnemonic;

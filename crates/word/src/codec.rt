@@ -177,16 +177,19 @@ pub fn encode(instruction: Instruction) -> u16
     }
 }
 
-fn keeps_zero(shape: Shape, rst: Register, rsa: Register, rsb: Register) -> bool
-    ensures { λ r. ⌜ r ≡ keepsZero shape rst rsa rsb ⌝ }
-{
-    match shape {
-        Shape::ThreeRegisters => true,
-        Shape::LastZero => rsb.number() == 0,
-        Shape::MiddleZero => rsa.number() == 0,
-        Shape::FirstZero => rst.number() == 0,
-        Shape::NoOperands => rst.number() == 0 && rsa.number() == 0 && rsb.number() == 0,
-        Shape::NumberOnly => false,
+impl Shape {
+    /// Whether the register fields that must be 0 are.
+    pub fn keeps_zero(self, rst: Register, rsa: Register, rsb: Register) -> bool
+        ensures { λ r. ⌜ r ≡ keepsZero self rst rsa rsb ⌝ }
+    {
+        match self {
+            Shape::ThreeRegisters => true,
+            Shape::LastZero => rsb.number() == 0,
+            Shape::MiddleZero => rsa.number() == 0,
+            Shape::FirstZero => rst.number() == 0,
+            Shape::NoOperands => rst.number() == 0 && rsa.number() == 0 && rsb.number() == 0,
+            Shape::NumberOnly => false,
+        }
     }
 }
 
@@ -267,7 +270,7 @@ fn decode_registers(
     ensures { λ r. ⌜ r ≡ ofRegisters (coded opcode op2) rst rsa rsb ⌝ }
 {
     let operation = Operation::coded(opcode, op2)?;
-    if !keeps_zero(operation.mnemonic().shape, rst, rsa, rsb) {
+    if !operation.mnemonic().shape.keeps_zero(rst, rsa, rsb) {
         return None;
     }
     with_registers(operation, rst, rsa, rsb)
