@@ -29,7 +29,10 @@ use Rattle.syntax.specs.Numbers.{number, bound, held, heldNumber}
 use Rattle.syntax.specs.Names.{registerIn, isName}
 use Rattle.syntax.specs.Operands.{Operand, register, numeral, name, Operands, none, one, two, three, orNumber, orName, orRegister, operandBy, andThen, afterThree, afterTwo, afterOne, afterNone, operandsBy}
 use Rattle.syntax.specs.Rows.{Row, immediate, constant, loadFrom, storeTo, plain, fitsByte, fitsWord, inRange, registersFit, asked, judged, ofNumber, rowOf}
-use Rattle.syntax.specs.Instructions.{withOperands, withMnemonic, instructionBy, instructionIn}
+use Rattle.syntax.specs.declared.statements.Beginning.{Beginning}
+use Rattle.syntax.specs.declared.statements.Beginning.the-variants.{Semicolon, Tab, Space, Other}
+use Rattle.syntax.specs.Statements.{withOperands, withMnemonic, instructionBy, beginning, kindOf, kindBy, isClean, withRow, saidBy, statementBy, statementIn}
+use Rattle.syntax.specs.declared.statements.LineFault.the-variants.{BadCharacters}
 use Rattle.syntax.specs.Mnemonics.{mnemonicIn}
 use Rattle.syntax.specs.Cuts.{pieces, before, behind}
 use Rattle.syntax.specs.declared.cuts.Separator.the-variants.{Comma, Blank}
@@ -167,13 +170,30 @@ operands-held : (o : Option (List ℕ)) → operandsBy heldNumber o ≡ mapped h
 operands-held None = refl
 operands-held (Some t) = none-held (pieces Comma t)
 
-pub instruction-held : (t : List ℕ) → instructionBy heldNumber t ≡ instructionIn t
+instruction-held : (t : List ℕ) → saidBy (instructionBy heldNumber t) ≡ saidBy (instructionBy number t)
 instruction-held t = byMnemonic (mnemonicIn (before Blank t))
   where
-    byOperands : (m : Mnemonic) (os : Option Operands) → withOperands m (mapped heldOperands os) ≡ withOperands m os
+    byOperands : (m : Mnemonic) (os : Option Operands) → saidBy (withOperands m (mapped heldOperands os)) ≡ saidBy (withOperands m os)
     byOperands m None = refl
-    byOperands m (Some os) = rows-held m os
+    byOperands m (Some os) = ap withRow (rows-held m os)
 
-    byMnemonic : (m : Option Mnemonic) → withMnemonic m (operandsBy heldNumber (behind Blank t)) ≡ withMnemonic m (operandsBy number (behind Blank t))
+    byMnemonic : (m : Option Mnemonic) → saidBy (withMnemonic m (operandsBy heldNumber (behind Blank t))) ≡ saidBy (withMnemonic m (operandsBy number (behind Blank t)))
     byMnemonic None = refl
-    byMnemonic (Some m) = ap (withOperands m) (operands-held (behind Blank t)) ∙ byOperands m (operandsBy number (behind Blank t))
+    byMnemonic (Some m) = ap (λ o. saidBy (withOperands m o)) (operands-held (behind Blank t)) ∙ byOperands m (operandsBy number (behind Blank t))
+
+kind-held : (l : List ℕ) → saidBy (kindBy heldNumber l) ≡ saidBy (kindBy number l)
+kind-held [] = refl
+kind-held (c ∷ cs) = by (beginning c)
+  where
+    by : (b : Beginning) → saidBy (kindOf heldNumber b c cs) ≡ saidBy (kindOf number b c cs)
+    by Semicolon = refl
+    by Tab = instruction-held cs
+    by Space = refl
+    by Other = refl
+
+pub statement-held : (l : List ℕ) → statementBy heldNumber l ≡ statementIn l
+statement-held l = by (isClean l)
+  where
+    by : (b : Bool) → saidBy (cond b (kindBy heldNumber l) (Err BadCharacters)) ≡ saidBy (cond b (kindBy number l) (Err BadCharacters))
+    by true = kind-held l
+    by false = refl

@@ -7,7 +7,7 @@ use lib.Chars.{codes}
 use lib.Dec.{eqb, leb}
 use lib.ListN.{getD}
 use Rattle.syntax.specs.declared.cuts.Separator.{Separator}
-use Rattle.syntax.specs.declared.cuts.Separator.the-variants.{LineFeed, Blank, Space, Comma}
+use Rattle.syntax.specs.declared.cuts.Separator.the-variants.{LineFeed, Blank, Space, Comma, Quote}
 
 -- The byte of a character.
 abbrev pub byte : String → ℕ
@@ -20,12 +20,13 @@ is s c = eqb c (byte s)
 abbrev pub from : String → String → ℕ → Bool
 from a b c = leb (byte a) c && leb c (byte b)
 
--- What parts lines, a line's first word from the rest, numbers of data, and operands.
+-- What ends lines, a line's first word, numbers of data, operands, and a string.
 abbrev pub parts : Separator → ℕ → Bool
 parts LineFeed c = is "\n" c
 parts Blank c = is " " c || is "\t" c
 parts Space c = is " " c
 parts Comma c = is "," c
+parts Quote c = is "\"" c
 
 -- Does each byte pass?
 abbrev pub every : (ℕ → Bool) → List ℕ → Bool

@@ -5,4 +5,4 @@ pub mod Numbers
 pub mod Operands
 pub mod Mnemonics
 pub mod Rows
-pub mod Instructions
+pub mod Statements

@@ -265,3 +265,7 @@ saidRow (R.LoadFrom w r v) = loadFrom w (numbered r) (saidValue v)
 saidRow (R.StoreTo w r v) = storeTo w (numbered r) (saidValue v)
 saidRow (R.BranchTo c r t) = branchTo c (numbered r) (now t)
 saidRow (R.LongShift d r s) = longShift d (numbered r) (numbered s)
+
+abbrev pub mappedOk : {X Y E : Type 0} → (X → Y) → Result X E → Result Y E
+mappedOk f (Ok x) = Ok (f x)
+mappedOk f (Err e) = Err e

@@ -19,6 +19,8 @@ pub enum Separator {
     Space,
     /// Parts operands.
     Comma,
+    /// Ends a string.
+    Quote,
 }
 
 impl Separator {
@@ -30,6 +32,7 @@ impl Separator {
             (Separator::Blank, ' ' | '\t') => true,
             (Separator::Space, ' ') => true,
             (Separator::Comma, ',') => true,
+            (Separator::Quote, '"') => true,
             _ => false,
         }
     }

@@ -1,15 +1,12 @@
-// Instruction lines.
+// Instructions taken apart, and the questions of their rows.
 ghost use mathlib.Core.Path.{_≡_};
-ghost use Rattle.syntax.specs.Numbers.{heldNumber};
-ghost use Rattle.syntax.specs.Rows.{fitsByte, fitsWord, fitsValue, inRange, registersFit, asked, saidValue, saidRow};
+ghost use Rattle.syntax.specs.Rows.{fitsByte, fitsWord, fitsValue, inRange, registersFit, asked, judged, rowOf, saidValue, saidRow, mappedOk};
+ghost use Rattle.syntax.specs.Operands.{saidAll};
 ghost use Rattle.word.specs.Registers.{register as numbered};
 ghost use Rattle.word.specs.Table.{row};
 ghost use Rattle.word.specs.Words.{keepsZero};
-ghost use Rattle.syntax.specs.Instructions.{instructionBy, instructionIn, mappedOk};
-use crate::cuts::Separator;
-use crate::cuts::cut;
-use crate::mnemonics::read_mnemonic;
-use crate::operands::read_operands;
+use crate::mnemonics::Mnemonic;
+use crate::operands::Operands;
 use crate::rows::InstructionFault;
 use crate::rows::Row;
 use crate::rows::Value;
@@ -17,6 +14,13 @@ use crate::rows::row_of;
 use word::Extension;
 use word::Operation;
 use word::Register;
+
+/// An instruction taken apart.
+#[derive(Clone, Copy)]
+pub struct Instruction<'a> {
+    pub mnemonic: Mnemonic,
+    pub operands: Operands<'a>,
+}
 
 fn fits_byte(extension: Extension, n: i64) -> bool
     ensures { λ r. ⌜ r ≡ fitsByte extension n ⌝ }
@@ -90,25 +94,14 @@ fn asked(row: Row<'_>) -> Result<Row<'_>, InstructionFault>
     Ok(row)
 }
 
-fn read_held(text: &[u8]) -> Result<Row<'_>, InstructionFault>
-    ensures { λ r. ⌜ mappedOk saidRow r ≡ instructionBy heldNumber (now (text .entry)) ⌝ }
-{
-    let (word, rest) = cut(text, Separator::Blank);
-    let Some(mnemonic) = read_mnemonic(word) else {
-        return Err(InstructionFault::UnknownMnemonic);
-    };
-    let Some(operands) = read_operands(rest) else {
-        return Err(InstructionFault::NoSuchRow);
-    };
-    match row_of(mnemonic, operands) {
-        None => Err(InstructionFault::NoSuchRow),
-        Some(row) => asked(row),
+impl<'a> Instruction<'a> {
+    /// Its row, where there is one and its numbers and registers fit.
+    pub fn row(self) -> Result<Row<'a>, InstructionFault>
+        ensures { λ r. ⌜ mappedOk saidRow r ≡ judged (rowOf (self .entry .mnemonic) (saidAll (self .entry .operands))) ⌝ }
+    {
+        match row_of(self.mnemonic, self.operands) {
+            None => Err(InstructionFault::NoSuchRow),
+            Some(row) => asked(row),
+        }
     }
-}
-
-/// The row of an instruction line, given what stands behind its tab.
-pub fn read_instruction(text: &[u8]) -> Result<Row<'_>, InstructionFault>
-    ensures { λ r. ⌜ mappedOk saidRow r ≡ instructionIn (now (text .entry)) ⌝ }
-{
-    read_held(text)
 }
