@@ -33,6 +33,7 @@ use Rattle.syntax.specs.declared.statements.Beginning.{Beginning}
 use Rattle.syntax.specs.declared.statements.Beginning.the-variants.{Semicolon, Tab, Space, Other}
 use Rattle.syntax.specs.Statements.{withOperands, withMnemonic, instructionBy, beginning, kindOf, kindBy, isClean, withRow, saidBy, statementBy, statementIn}
 use Rattle.syntax.specs.declared.statements.LineFault.the-variants.{BadCharacters}
+use Rattle.syntax.specs.Data.{fits}
 use Rattle.syntax.specs.Mnemonics.{mnemonicIn}
 use Rattle.syntax.specs.Cuts.{pieces, before, behind}
 use Rattle.syntax.specs.declared.cuts.Separator.the-variants.{Comma, Blank}
@@ -197,3 +198,15 @@ statement-held l = by (isClean l)
     by : (b : Bool) → saidBy (cond b (kindBy heldNumber l) (Err BadCharacters)) ≡ saidBy (cond b (kindBy number l) (Err BadCharacters))
     by true = kind-held l
     by false = refl
+
+-- a number of data
+fits-held : (z : ℤ) → fitsWord (held z) ≡ fitsWord z
+fits-held z = by (fitsWord z) refl
+  where
+    by : (b : Bool) → fitsWord z ≡ b → fitsWord (held z) ≡ fitsWord z
+    by true e = ap fitsWord (word-same z e)
+    by false e = word-out z e ∙ sym e
+
+pub data-held : (o : Option ℤ) → fits (mapped held o) ≡ fits o
+data-held None = refl
+data-held (Some z) = fits-held z

@@ -3,3 +3,4 @@ pub mod Every
 pub mod Caps
 pub mod Firsts
 pub mod Held
+pub mod Pieces

@@ -6,3 +6,4 @@ pub mod Operands
 pub mod Mnemonics
 pub mod Rows
 pub mod Statements
+pub mod Data

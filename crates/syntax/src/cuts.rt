@@ -3,7 +3,7 @@ ghost use mathlib.Core.Path.{_≡_};
 ghost use mathlib.Core.List.{_∷_};
 ghost use Prim.Native.Nat.{_<_};
 ghost use lib.ListN.{length};
-ghost use Rattle.std.specs.Options.{mapped};
+ghost use Rattle.std.specs.Options.{mapped, Cases};
 ghost use Rattle.syntax.specs.Characters.{parts};
 ghost use Rattle.syntax.specs.Cuts.{before, behind, pieces, piecesOf, lines, linesOf};
 ghost use Rattle.syntax.specs.declared.cuts.Separator.the-variants.{LineFeed};
@@ -43,6 +43,7 @@ pub fn cut(text: &[u8], separator: Separator) -> (&[u8], Option<&[u8]>)
     ensures before { λ r. ⌜ now (r .0) ≡ before separator (now (text .entry)) ⌝ }
     ensures behind { λ r. ⌜ mapped now (r .1) ≡ behind separator (now (text .entry)) ⌝ }
     ensures pieces { λ r. ⌜ pieces separator (now (text .entry)) ≡ now (r .0) ∷ piecesOf separator (mapped now (r .1)) ⌝ }
+    ensures shorter { λ r. ⌜ Cases (r .1) (Unit {0}) (λ b. length (now b) < length (now (text .entry))) ⌝ }
 {
     for (i, b) in text.iter().enumerate() {
         if separator.parts(*b) {

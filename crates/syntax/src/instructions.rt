@@ -32,7 +32,7 @@ fn fits_byte(extension: Extension, n: i64) -> bool
     }
 }
 
-fn fits_word(n: i64) -> bool
+pub fn fits_word(n: i64) -> bool
     ensures { λ r. ⌜ r ≡ fitsWord n ⌝ }
 {
     -32768 <= n && n <= 65535

@@ -1,5 +1,6 @@
 // What the lines of a text say, one by one.
 mod cuts;
+mod data;
 mod instructions;
 mod mnemonics;
 mod names;
@@ -10,6 +11,8 @@ mod statements;
 
 pub use cuts::Separator;
 pub use cuts::cut;
+pub use data::Data;
+pub use data::read_data;
 pub use instructions::Instruction;
 pub use mnemonics::Mnemonic;
 pub use mnemonics::Pseudo;
