@@ -50,7 +50,8 @@ mod tests {
         check(report(rt.alloc(), 1, b"2dFF", &mut out)?)?;
         check(!report(rt.alloc(), 2, b"0007", &mut out)?)?;
         check(!report(rt.alloc(), 31, b"12g4", &mut out)?)?;
-        let expected = b"\txor r5,-1\nrefused 16\nline 31: not a word, four hexadecimal digits expected\n";
+        let expected =
+            b"\txor r5,-1\nrefused 16\nline 31: not a word, four hexadecimal digits expected\n";
         check(out.as_slice() == expected)?;
         check_eq(word_in(b"aBc9"), Some(0xABC9))
     }

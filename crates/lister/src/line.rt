@@ -19,7 +19,7 @@ pub struct Line {
 }
 
 impl Line {
-    pub fn new() -> Line
+    pub(crate) fn new() -> Line
         ensures text { λ r. ⌜ held r ≡ [] ⌝ }
         ensures size { λ r. ⌜ r .len ≡ 0 ⌝ }
     {
@@ -29,7 +29,7 @@ impl Line {
         }
     }
 
-    pub fn push(&mut self, byte: u8)
+    pub(crate) fn push(&mut self, byte: u8)
         requires { ⌜ now self .len < 16 ⌝ }
         ensures text { λ _. ⌜ held (now (self .exit)) ≡ held (now (self .entry)) ++ (byte ∷ []) ⌝ }
         ensures size { λ _. ⌜ now (self .exit) .len ≡ now (self .entry) .len + 1 ⌝ }
@@ -38,7 +38,7 @@ impl Line {
         self.len += 1;
     }
 
-    pub fn push_all(&mut self, text: &[u8])
+    pub(crate) fn push_all(&mut self, text: &[u8])
         requires { ⌜ now self .len + length (now text) ≤ 16 ⌝ }
         ensures text { λ _. ⌜ held (now (self .exit)) ≡ held (now (self .entry)) ++ now (text .entry) ⌝ }
         ensures size { λ _. ⌜ now (self .exit) .len ≡ now (self .entry) .len + length (now (text .entry)) ⌝ }
@@ -49,7 +49,7 @@ impl Line {
     }
 
     /// The mnemonic.
-    pub fn push_name(&mut self, operation: Operation)
+    pub(crate) fn push_name(&mut self, operation: Operation)
         requires { ⌜ now self .len + 4 ≤ 16 ⌝ }
         ensures text { λ _. ⌜ held (now (self .exit)) ≡ held (now (self .entry)) ++ row operation .name ⌝ }
         ensures size { λ _. ⌜ now (self .exit) .len ≤ now (self .entry) .len + 4 ⌝ }
@@ -120,7 +120,13 @@ impl Line {
     }
 
     /// A space and three registers, for a mnemonic that has operands.
-    pub fn push_registers(&mut self, operation: Operation, a: Register, b: Register, c: Register)
+    pub(crate) fn push_registers(
+        &mut self,
+        operation: Operation,
+        a: Register,
+        b: Register,
+        c: Register,
+    )
         requires { ⌜ now self .len + 9 ≤ 16 ⌝ }
         ensures text { λ _. ⌜ held (now (self .exit)) ≡ held (now (self .entry)) ++ operands (row operation .shape) (threeRegisters a b c) ⌝ }
         ensures size { λ _. ⌜ now (self .exit) .len ≤ now (self .entry) .len + 9 ⌝ }
@@ -135,7 +141,7 @@ impl Line {
     }
 
     /// A space, a register and an immediate.
-    pub fn push_number(&mut self, operation: Operation, a: Register, n: u8)
+    pub(crate) fn push_number(&mut self, operation: Operation, a: Register, n: u8)
         requires { ⌜ now self .len + 8 ≤ 16 ⌝ }
         ensures text { λ _. ⌜ held (now (self .exit)) ≡ held (now (self .entry)) ++ (codes " " ++ registerAndNumber (row operation .immediate) a n) ⌝ }
         ensures size { λ _. ⌜ now (self .exit) .len ≤ now (self .entry) .len + 8 ⌝ }

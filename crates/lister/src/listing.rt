@@ -56,7 +56,7 @@ fn number_line(operation: Operation, a: Register, n: u8) -> Line
 }
 
 /// The line with these fields.
-pub fn line_of(fields: Fields) -> Line
+pub(crate) fn line_of(fields: Fields) -> Line
     ensures text { λ r. ⌜ held r ≡ lineOfFields fields ⌝ }
     ensures size { λ r. ⌜ r .len ≤ 16 ⌝ }
 {

@@ -21,8 +21,8 @@ cap-step base n w h =
     ⊎-elim
     (λ small. let e : min bound n ≡ n = omega arith in ap (λ m. min bound (m * base + w)) e)
     (λ large.
-        let e : min bound n ≡ bound = omega arith in
-        ap (λ m. min bound (m * base + w)) e ∙ omega (arith, le-mul-of-pos-right bound h, mul-le-mul-right base large))
+    let e : min bound n ≡ bound = omega arith in
+    ap (λ m. min bound (m * base + w)) e ∙ omega (arith, le-mul-of-pos-right bound h, mul-le-mul-right base large))
     (cases-lt n bound)
 
 -- a bound on the way changes nothing that the bound leaves

@@ -81,7 +81,12 @@ fn of_none<'a>(mnemonic: Mnemonic) -> Option<Row<'a>>
 {
     match mnemonic {
         Mnemonic::OfWord(Operation::Halts) => Some(Row::Registers(Operation::Halts, 0, 0, 0)),
-        Mnemonic::OfPseudo(Pseudo::Nop) => Some(Row::Registers(Operation::Computes(Computation::And), 0, 0, 0)),
+        Mnemonic::OfPseudo(Pseudo::Nop) => Some(Row::Registers(
+            Operation::Computes(Computation::And),
+            0,
+            0,
+            0,
+        )),
         _ => None,
     }
 }
@@ -90,7 +95,11 @@ fn of_one<'a>(mnemonic: Mnemonic, r: u8) -> Option<Row<'a>>
     ensures { λ q. ⌜ mapped saidRow q ≡ ofOne mnemonic (numbered r) ⌝ }
 {
     match mnemonic {
-        Mnemonic::OfPseudo(Pseudo::Not) => Some(Row::Immediate(Operation::Computes(Computation::Xor), r, -1)),
+        Mnemonic::OfPseudo(Pseudo::Not) => Some(Row::Immediate(
+            Operation::Computes(Computation::Xor),
+            r,
+            -1,
+        )),
         Mnemonic::OfPseudo(Pseudo::Neg) => Some(Row::Negation(r)),
         _ => None,
     }
@@ -112,7 +121,12 @@ fn of_two_registers<'a>(mnemonic: Mnemonic, r: u8, s: u8) -> Option<Row<'a>>
 {
     match mnemonic {
         Mnemonic::OfWord(operation) => leaves_out(operation, r, s),
-        Mnemonic::OfPseudo(Pseudo::Lsl) => Some(Row::Registers(Operation::Computes(Computation::Add), r, s, s)),
+        Mnemonic::OfPseudo(Pseudo::Lsl) => Some(Row::Registers(
+            Operation::Computes(Computation::Add),
+            r,
+            s,
+            s,
+        )),
         Mnemonic::OfPseudo(Pseudo::Lsrm) => Some(Row::LongShift(LongShift::Logical, r, s)),
         Mnemonic::OfPseudo(Pseudo::Asrm) => Some(Row::LongShift(LongShift::Arithmetic, r, s)),
         Mnemonic::OfPseudo(Pseudo::Lslm) => Some(Row::LongShift(LongShift::Leftward, r, s)),
@@ -145,8 +159,16 @@ fn of_name<'a>(mnemonic: Mnemonic, r: u8, name: &'a [u8]) -> Option<Row<'a>>
     ensures { λ q. ⌜ mapped saidRow q ≡ ofName mnemonic (numbered r) (now (name .entry)) ⌝ }
 {
     match mnemonic {
-        Mnemonic::OfWord(Operation::Loads(width)) => Some(Row::LoadFrom(width, r, Value::Name(name))),
-        Mnemonic::OfWord(Operation::Stores(width)) => Some(Row::StoreTo(width, r, Value::Name(name))),
+        Mnemonic::OfWord(Operation::Loads(width)) => Some(Row::LoadFrom(
+            width,
+            r,
+            Value::Name(name),
+        )),
+        Mnemonic::OfWord(Operation::Stores(width)) => Some(Row::StoreTo(
+            width,
+            r,
+            Value::Name(name),
+        )),
         Mnemonic::OfWord(Operation::Branches(condition)) => Some(Row::BranchTo(condition, r, name)),
         Mnemonic::OfPseudo(Pseudo::Ldi) => Some(Row::Constant(r, Value::Name(name))),
         _ => None,

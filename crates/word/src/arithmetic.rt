@@ -120,11 +120,7 @@ pub fn lsr(a: u16) -> u16
 pub fn asr(a: u16) -> u16
     ensures { λ r. ⌜ r ≡ asr a ⌝ }
 {
-    if a < 0x8000 {
-        lsr(a)
-    } else {
-        0x8000 + lsr(a)
-    }
+    if a < 0x8000 { lsr(a) } else { 0x8000 + lsr(a) }
 }
 
 pub fn shift_right(shift: Shift, a: u16) -> u16

@@ -193,70 +193,69 @@ impl Shape {
     }
 }
 
-fn with_registers(
-    operation: Operation,
-    rst: Register,
-    rsa: Register,
-    rsb: Register,
-) -> Option<Instruction>
-    ensures { λ r. ⌜ r ≡ withRegisters operation rst rsa rsb ⌝ }
-{
-    match operation {
-        Operation::Computes(computation) => Some(Instruction::Compute {
-            computation,
-            target: rst,
-            left: rsa,
-            right: rsb,
-        }),
-        Operation::Shifts(shift) => Some(Instruction::Shift {
-            shift,
-            target: rst,
-            source: rsa,
-        }),
-        Operation::Loads(width) => Some(Instruction::Load {
-            width,
-            target: rst,
-            address: rsb,
-        }),
-        Operation::Stores(width) => Some(Instruction::Store {
-            width,
-            source: rsa,
-            address: rsb,
-        }),
-        Operation::Branches(condition) => Some(Instruction::Branch {
-            condition,
-            tested: rsa,
-            target: rsb,
-        }),
-        Operation::LoadsRegister | Operation::LoadsConstant => None,
-        Operation::Halts => Some(Instruction::Halt),
+impl Operation {
+    /// The instruction of this operation with these register fields; `None` where it has no such words.
+    pub fn with_registers(self, rst: Register, rsa: Register, rsb: Register) -> Option<Instruction>
+        ensures { λ r. ⌜ r ≡ withRegisters self rst rsa rsb ⌝ }
+    {
+        match self {
+            Operation::Computes(computation) => Some(Instruction::Compute {
+                computation,
+                target: rst,
+                left: rsa,
+                right: rsb,
+            }),
+            Operation::Shifts(shift) => Some(Instruction::Shift {
+                shift,
+                target: rst,
+                source: rsa,
+            }),
+            Operation::Loads(width) => Some(Instruction::Load {
+                width,
+                target: rst,
+                address: rsb,
+            }),
+            Operation::Stores(width) => Some(Instruction::Store {
+                width,
+                source: rsa,
+                address: rsb,
+            }),
+            Operation::Branches(condition) => Some(Instruction::Branch {
+                condition,
+                tested: rsa,
+                target: rsb,
+            }),
+            Operation::LoadsRegister | Operation::LoadsConstant => None,
+            Operation::Halts => Some(Instruction::Halt),
+        }
     }
-}
 
-fn with_immediate(operation: Operation, rst: Register, immediate: u8) -> Option<Instruction>
-    ensures { λ r. ⌜ r ≡ withImmediate operation rst immediate ⌝ }
-{
-    match operation {
-        Operation::Computes(computation) => Some(Instruction::ComputeImmediate {
-            computation,
-            register: rst,
-            immediate,
-        }),
-        Operation::Branches(condition) => Some(Instruction::BranchImmediate {
-            condition,
-            tested: rst,
-            immediate,
-        }),
-        Operation::LoadsRegister => Some(Instruction::LoadRegister {
-            register: rst,
-            immediate,
-        }),
-        Operation::LoadsConstant => Some(Instruction::LoadConstant {
-            register: rst,
-            immediate,
-        }),
-        Operation::Shifts(_) | Operation::Loads(_) | Operation::Stores(_) | Operation::Halts =>
-            None,
+    /// The instruction of this operation with this immediate; `None` where it has no such words.
+    pub fn with_immediate(self, rst: Register, immediate: u8) -> Option<Instruction>
+        ensures { λ r. ⌜ r ≡ withImmediate self rst immediate ⌝ }
+    {
+        match self {
+            Operation::Computes(computation) => Some(Instruction::ComputeImmediate {
+                computation,
+                register: rst,
+                immediate,
+            }),
+            Operation::Branches(condition) => Some(Instruction::BranchImmediate {
+                condition,
+                tested: rst,
+                immediate,
+            }),
+            Operation::LoadsRegister => Some(Instruction::LoadRegister {
+                register: rst,
+                immediate,
+            }),
+            Operation::LoadsConstant => Some(Instruction::LoadConstant {
+                register: rst,
+                immediate,
+            }),
+            Operation::Shifts(_) | Operation::Loads(_) | Operation::Stores(_) | Operation::Halts =>
+                None,
+        }
     }
 }
 
@@ -273,14 +272,14 @@ fn decode_registers(
     if !operation.mnemonic().shape.keeps_zero(rst, rsa, rsb) {
         return None;
     }
-    with_registers(operation, rst, rsa, rsb)
+    operation.with_registers(rst, rsa, rsb)
 }
 
 fn decode_immediate(opcode: u8, rst: Register, immediate: u8) -> Option<Instruction>
     ensures { λ r. ⌜ r ≡ ofImmediate (immediatelyCoded opcode) rst immediate ⌝ }
 {
     let operation = Operation::immediately_coded(opcode)?;
-    with_immediate(operation, rst, immediate)
+    operation.with_immediate(rst, immediate)
 }
 
 /// The instruction of a word, or `None` where the word is not valid.
