@@ -1,0 +1,2 @@
+pub mod KindsStay
+pub mod ReadBack

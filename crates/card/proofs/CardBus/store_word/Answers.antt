@@ -1,0 +1,7 @@
+use borrow.Author.Needs.{needs}
+use Rattle.card.specs.Cards.{on-card}
+use Rattle.card.proofs.CardCalls.{card-store-word}
+use Rattle.card.proofs.CardBus.store_word.Needs as need
+
+pub returns-then-size-from : need.returns-then-size-from
+returns-then-size-from g c = record { comes = card-store-word (on-card (c .args .self .now .card)) (g .B·Bus .meaning (c .args .self .now .below)) _ _ _ (c .store-word .result) (search needs) (c .store-word .ensures .comes); keeps = search needs; stores = tt }

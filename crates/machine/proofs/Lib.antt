@@ -1,0 +1,9 @@
+pub mod Facts
+pub mod Inside
+pub mod Placed
+pub mod Strokes
+pub mod Ticks
+pub mod ByTicks
+pub mod OneRun
+pub mod AllCalls
+pub mod ReadyMade

@@ -1,0 +1,3 @@
+pub mod WorkedLaws
+pub mod WorkedRows
+pub mod Pages
