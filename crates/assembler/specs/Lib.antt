@@ -1,1 +1,2 @@
 pub mod Expansions
+pub mod Laws

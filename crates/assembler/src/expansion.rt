@@ -6,6 +6,7 @@ ghost use Rattle.word.specs.Registers.{register as numbered};
 ghost use Rattle.word.specs.Words.{encoded};
 ghost use Rattle.syntax.specs.Rows.{saidRow};
 ghost use Rattle.assembler.specs.Expansions.{byteOf, listOf, ldi, shiftOnce, words, wordCount, held};
+ghost use Rattle.assembler.specs.Laws.{CountsStand};
 use crate::spelling::Spelling;
 use syntax::LongShift;
 use syntax::Row;
@@ -206,3 +207,8 @@ pub fn word_count(row: Row<'_>) -> usize
         Row::LoadFrom(..) | Row::StoreTo(..) | Row::BranchTo(..) | Row::LongShift(..) => 3,
     }
 }
+
+/// A row that has passed its questions spells as many words as are counted for it.
+pub fn counts_stand()
+    ensures { λ _. ⌜ CountsStand ⌝ }
+{}
