@@ -51,24 +51,34 @@ abbrev pub numberBytes : List (List ℕ) → List ℕ
 numberBytes [] = []
 numberBytes (p ∷ ps) = bytesOf (valueOf (number p)) ++ numberBytes ps
 
+-- What data is: a string by its bytes, or numbers as they are written.
+pub data Datum : Type 0 where
+  string : List ℕ → Datum
+  numbers : List (List ℕ) → Datum
+
+-- Its bytes in memory.
+abbrev pub dataBytes : Datum → List ℕ
+dataBytes (string t) = textBytes t
+dataBytes (numbers ps) = numberBytes ps
+
 -- A string, behind its first quote: no quote inside it, and nothing behind its second quote.
-abbrev pub closed : List ℕ → Option (List ℕ) → Option (List ℕ)
+abbrev pub closed : List ℕ → Option (List ℕ) → Option Datum
 closed t None = None
-closed t (Some []) = Some (textBytes t)
+closed t (Some []) = Some (string t)
 closed t (Some (c ∷ cs)) = None
 
-abbrev pub stringIn : List ℕ → Option (List ℕ)
+abbrev pub stringIn : List ℕ → Option Datum
 stringIn cs = closed (before Quote cs) (behind Quote cs)
 
-abbrev pub numbersIn : List ℕ → Option (List ℕ)
-numbersIn t = cond (allFit (pieces Space t)) (Some (numberBytes (pieces Space t))) None
+abbrev pub numbersIn : List ℕ → Option Datum
+numbersIn t = cond (allFit (pieces Space t)) (Some (numbers (pieces Space t))) None
 
--- The bytes of data, or none where it is not well formed or a number is out of range.
-abbrev pub dataIn : List ℕ → Option (List ℕ)
+-- The data in some bytes, or none where it is not well formed or a number is out of range.
+abbrev pub dataIn : List ℕ → Option Datum
 dataIn [] = None
 dataIn (c ∷ cs) = cond (is "\"" c) (stringIn cs) (numbersIn (c ∷ cs))
 
 -- What the program's value says.
-abbrev pub saidData : Data → List ℕ
-saidData (Text t) = textBytes (now t)
-saidData (Numbers t) = numberBytes (pieces Space (now t))
+abbrev pub saidData : Data → Datum
+saidData (Text t) = string (now t)
+saidData (Numbers t) = numbers (pieces Space (now t))

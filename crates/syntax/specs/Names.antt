@@ -34,10 +34,10 @@ begins c = from "a" "z" c || (from "A" "Z" c || is "_" c)
 abbrev pub goesOn : ℕ → Bool
 goesOn c = begins c || from "0" "9" c
 
--- It has at most 32 bytes and is no register.
-abbrev pub isWord : List ℕ → Bool
-isWord [] = false
-isWord (c ∷ cs) = begins c && (every goesOn cs && leb (length cs) 31)
+-- It has at most 32 bytes, and is no register.
+abbrev pub hasNameForm : List ℕ → Bool
+hasNameForm [] = false
+hasNameForm (c ∷ cs) = begins c && (every goesOn cs && leb (length cs) 31)
 
 abbrev pub isName : List ℕ → Bool
-isName t = isWord t && not (isSome (registerIn t))
+isName t = hasNameForm t && not (isSome (registerIn t))

@@ -243,7 +243,7 @@ numberOf NoSuchRow = 10
 numberOf OutOfRange = 11
 numberOf WrongRegister = 12
 
--- The three questions of a row, in order.
+-- The questions of a row in order: its range, then its registers; before them, whether there is one.
 abbrev pub asked : Row → Result Row InstructionFault
 asked r = cond (inRange r) (cond (registersFit r) (Ok r) (Err WrongRegister)) (Err OutOfRange)
 

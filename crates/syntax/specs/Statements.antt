@@ -38,9 +38,10 @@ isPlain c = is "\t" c || from " " "~" c
 abbrev pub isClean : List ℕ → Bool
 isClean l = leb (length l) 120 && every isPlain l
 
--- A line taken apart: nothing (empty, or a comment), a label with what stands behind its separator, or an instruction.
+-- A line taken apart: empty, a comment, a label with what stands behind its separator, or an instruction.
 pub data Line : Type 0 where
-  nothing : Line
+  blank : Line
+  comment : Line
   label : List ℕ → Option (List ℕ) → Line
   instruction : Mnemonic → Operands → Line
 
@@ -79,13 +80,13 @@ abbrev pub beginning : ℕ → Beginning
 beginning c = cond (is ";" c) Semicolon (cond (is "\t" c) Tab (cond (is " " c) Space Other))
 
 abbrev pub kindOf : (List ℕ → Option ℤ) → Beginning → ℕ → List ℕ → Result Line LineFault
-kindOf read Semicolon c cs = Ok nothing
+kindOf read Semicolon c cs = Ok comment
 kindOf read Tab c cs = instructionBy read cs
 kindOf read Space c cs = Err Indented
 kindOf read Other c cs = labelIn (c ∷ cs)
 
 abbrev pub kindBy : (List ℕ → Option ℤ) → List ℕ → Result Line LineFault
-kindBy read [] = Ok nothing
+kindBy read [] = Ok blank
 kindBy read (c ∷ cs) = kindOf read (beginning c) c cs
 
 abbrev pub lineBy : (List ℕ → Option ℤ) → List ℕ → Result Line LineFault
@@ -97,7 +98,8 @@ withRow (Ok r) = Ok (code r)
 withRow (Err f) = Err (BadInstruction f)
 
 abbrev pub said : Line → Result Statement LineFault
-said nothing = Ok empty
+said blank = Ok empty
+said comment = Ok empty
 said (label n rest) = Ok (labelled n rest)
 said (instruction m os) = withRow (judged (rowOf m os))
 
@@ -114,8 +116,8 @@ statementIn = statementBy number
 
 -- What the program's values say.
 abbrev pub lineOf : CodeLine.Line → Line
-lineOf L.Empty = nothing
-lineOf L.Comment = nothing
+lineOf L.Empty = blank
+lineOf L.Comment = comment
 lineOf (L.Label n rest) = label (now n) (mapped now rest)
 lineOf (L.Instruction i) = instruction (i .mnemonic) (saidAll (i .operands))
 

@@ -5,8 +5,7 @@ ghost use Prim.Native.Nat.{_<_};
 ghost use lib.ListN.{length};
 ghost use Rattle.std.specs.Options.{mapped, Cases};
 ghost use Rattle.syntax.specs.Characters.{parts};
-ghost use Rattle.syntax.specs.Cuts.{before, behind, pieces, piecesOf, lines, linesOf};
-ghost use Rattle.syntax.specs.declared.cuts.Separator.the-variants.{LineFeed};
+ghost use Rattle.syntax.specs.Cuts.{before, behind, pieces, piecesOf};
 
 /// What parts the pieces of a text.
 #[derive(Clone, Copy)]

@@ -1,7 +1,7 @@
 // Registers and names.
 ghost use mathlib.Core.Path.{_≡_};
 ghost use Rattle.syntax.specs.Characters.{every};
-ghost use Rattle.syntax.specs.Names.{registerNumber, registerIn, begins, goesOn, isWord, isName};
+ghost use Rattle.syntax.specs.Names.{registerNumber, registerIn, begins, goesOn, hasNameForm, isName};
 use word::Register;
 
 fn register_number(first: char, second: char) -> Option<u16>
@@ -57,8 +57,8 @@ fn all_go_on(text: &[u8]) -> bool
     true
 }
 
-fn is_word(text: &[u8]) -> bool
-    ensures { λ r. ⌜ r ≡ isWord (now (text .entry)) ⌝ }
+fn has_name_form(text: &[u8]) -> bool
+    ensures { λ r. ⌜ r ≡ hasNameForm (now (text .entry)) ⌝ }
 {
     match text.split_first() {
         Some((first, rest)) => may_begin(*first as char) && all_go_on(rest) && rest.len() <= 31,
@@ -70,5 +70,5 @@ fn is_word(text: &[u8]) -> bool
 pub fn is_name(text: &[u8]) -> bool
     ensures { λ r. ⌜ r ≡ isName (now (text .entry)) ⌝ }
 {
-    is_word(text) && read_register(text).is_none()
+    has_name_form(text) && read_register(text).is_none()
 }

@@ -35,9 +35,15 @@ entry-at LoadsRegister d = refl
 entry-at LoadsConstant d = refl
 entry-at Halts d = refl
 
-pub row-at : (table : List Mnemonic) (x : Operation) (i : ℕ) (d : Mnemonic) → map entryIn table ≡ entries → i ≡ position x → i < length table → rowIn (getD table i d) ≡ row x
-row-at table x i d is at inside =
-    ap (λ e. e .says) (sym (getD-map entryIn table i d (entry x) inside) ∙ (λ k. getD (is k) (at k) (entry x)) ∙ entry-at x (entry x))
+module _ (table : List Mnemonic) (x : Operation) (i : ℕ) (d : Mnemonic) where
+  found-at : map entryIn table ≡ entries → i ≡ position x → i < length table → entryIn (getD table i d) ≡ entry x
+  found-at is at inside = sym (getD-map entryIn table i d (entry x) inside) ∙ (λ k. getD (is k) (at k) (entry x)) ∙ entry-at x (entry x)
+
+  pub row-at : map entryIn table ≡ entries → i ≡ position x → i < length table → rowIn (getD table i d) ≡ row x
+  row-at is at inside = ap (λ e. e .says) (found-at is at inside)
+
+  pub operation-at : map entryIn table ≡ entries → i ≡ position x → i < length table → getD table i d .operation ≡ x
+  operation-at is at inside = ap (λ e. e .operation) (found-at is at inside)
 
 -- codes fit their fields
 pub opcode-in : (m : Mnemonic) (x : Operation) → rowIn m ≡ row x → m .opcode < 16

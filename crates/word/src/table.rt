@@ -170,7 +170,8 @@ impl Operation {
 
     /// Its row of the table.
     pub fn mnemonic(self) -> Mnemonic
-        ensures { λ r. ⌜ rowIn r ≡ row self ⌝ }
+        ensures row { λ r. ⌜ rowIn r ≡ row self ⌝ }
+        ensures operation { λ r. ⌜ r .operation ≡ self ⌝ }
     {
         let table = mnemonics();
         table[self.position()]

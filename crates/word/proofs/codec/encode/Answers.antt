@@ -11,10 +11,10 @@ use Rattle.word.proofs.codec.encode.Needs as need
 pub register-word-requires : need.register-word-requires
 register-word-requires c κs =
     let m = c .mnemonic-row in
-    (opcode-in (m .result) (c .in-Registers .operation) (m .ensures), op2-in (m .result) (c .in-Registers .operation) (m .ensures))
+    (opcode-in (m .result) (c .in-Registers .operation) (m .ensures .row), op2-in (m .result) (c .in-Registers .operation) (m .ensures .row))
 
 pub immediate-word-requires : need.immediate-word-requires
-immediate-word-requires c κs = let m = c .mnemonic-row-in-Immediate in opcode-in (m .result) (c .in-Immediate .operation) (m .ensures)
+immediate-word-requires c κs = let m = c .mnemonic-row-in-Immediate in opcode-in (m .result) (c .in-Immediate .operation) (m .ensures .row)
 
 pub returns-in-Registers : need.returns-in-Registers
 returns-in-Registers c =
