@@ -3,6 +3,7 @@ pub mod Inside
 pub mod Placed
 pub mod Strokes
 pub mod Ticks
+pub mod InParts
 pub mod ByTicks
 pub mod OneRun
 pub mod AllCalls

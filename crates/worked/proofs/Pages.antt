@@ -1,5 +1,5 @@
--- The worked pages, computed on either side; and that the agreement is about them.
-use mathlib.Core.Path.{_≡_, refl, sym, _∙_}
+-- The worked pages but the longest loop, computed on either side; and that the agreement is about all of them.
+use mathlib.Core.Path.{_≡_, refl, sym}
 use mathlib.Core.List.{List, [], _∷_}
 use mathlib.Core.Bool.{Bool, true, false}
 use Prim.Native.Nat.{ℕ, zero, suc, _-_, _≤_, _<_}
@@ -14,7 +14,7 @@ use Rattle.machine.specs.Reading.{current, read}
 use Rattle.machine.specs.Calls.{boardCall, readingCall}
 use Rattle.machine.specs.Agreement.{Follows}
 use Rattle.worked.specs.Worked.{Size, Two, Four, modulus, put, writes, give, take, load, store, byteAt, Place, CharacterPort, InputPort, Nothing, Cell, Bytes, Sound, worked, Hcf, One, Ldi, LdwAt, StwAt, Lsrm, LsrmOrNone}
-use Rattle.worked.specs.Page.{blank, port, placeOf, busOf, reads, runs, shiftAndSend, ownLine, longest, longCalls, longPage, shiftTwice, nothingBehind, dataBehind, FirstPage, OwnLinePage, OffTheLinesPage, LongestPage, FourBytesPage, PagesFollow}
+use Rattle.worked.specs.Page.{blank, port, placeOf, busOf, reads, runs, shiftAndSend, ownLine, longest, shiftTwice, nothingBehind, dataBehind, FirstPage, OwnLinePage, OffTheLinesPage, FourBytesPage, PagesFollow}
 use Rattle.machine.proofs.Facts.{true≢false, ltb-yes}
 use Rattle.machine.proofs.AllCalls.{agreement}
 use Rattle.worked.proofs.WorkedLaws.{worked-laws}
@@ -118,11 +118,3 @@ pages-follow =
       )
           refl (omega arith) (omega arith);
     }
-
--- the longest loop: the reading computes it at a stroke, and the board follows
-long-read : (reads Two longest longCalls .answers ≡ longPage) × (reads Two longest longCalls .left .over ≡ false)
-unfolding reads readingCall read current lineAt inLine put writes give take load store
-long-read = (refl, refl)
-
-pub longest-page : LongestPage
-longest-page = record { board = sym (pages-follow .longest-loop .agree longCalls (long-read .1) .answers) ∙ long-read .0; reading = long-read .0 }

@@ -82,14 +82,6 @@ intoData = two (StwAt 1 8) ∷ (two (One Hcf) ∷ (Data (1 ∷ (2 ∷ [])) ∷ [
 abbrev pub longest : List (Item (worked Two))
 longest = two (Lsrm 1 2) ∷ (two (One Hcf) ∷ [])
 
--- Its calls, which pause it after 100,000 words.
-abbrev pub longCalls : List Call
-longCalls = Run 100000 ∷ (Run 100000 ∷ [])
-
--- Their answers: 196,608 words of the loop and one that halts.
-abbrev pub longPage : List (Answer Refusal Denial)
-longPage = Ran 100000 Spent ∷ (Ran 96609 Halted ∷ [])
-
 -- Lines with words of four bytes.
 abbrev pub four : Row → Item (worked Four)
 four k = Code (line Four k)
@@ -198,12 +190,7 @@ pub record OffTheLinesPage : Type 0 where
   pub not-there : runs Two nothingBehind (offTheLines ++ (Run 1 ∷ [])) .answers ≡ offPage ++ (Ran 0 (Faulted (NotThere 4)) ∷ [])
   pub not-valid : runs Two dataBehind (offTheLines ++ (Run 1 ∷ [])) .answers ≡ offPage ++ (Ran 0 (Faulted (NotValid 4)) ∷ [])
 
--- The fourth page: the longest loop.
-pub record LongestPage : Type 0 where
-  pub board : runs Two longest longCalls .answers ≡ longPage
-  pub reading : reads Two longest longCalls .answers ≡ longPage
-
--- The fifth page: words of four bytes, and a loop behind a word that may skip it; 40 is shifted by 3 places, once.
+-- The fourth page: words of four bytes, and a loop behind a word that may skip it; 40 is shifted by 3 places, once.
 pub record FourBytesPage : Type 0 where
   pub board : runs Four shiftTwice fourCalls .answers ≡ fourPage
   pub reading : reads Four shiftTwice fourCalls .answers ≡ fourPage

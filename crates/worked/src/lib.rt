@@ -1,12 +1,11 @@
 // The worked machine, with words of two bytes and of four, and its pages: small programs, the calls sent to them, and the answers.
 ghost use mathlib.Core.Path.{_≡_};
 ghost use mathlib.Core.List.{[], _∷_, _++_};
-ghost use Prim.Native.Nat.{_+_};
 ghost use Rattle.std.specs.declared.option.Option.the-variants.{Some};
 ghost use Rattle.machine.specs.Calls.{Run};
 ghost use Rattle.machine.specs.Agreement.{Agreement};
-ghost use Rattle.worked.specs.Worked.{worked, Two, Four, Lsrm, cost, RowsKeep};
-ghost use Rattle.worked.specs.Page.{FirstPage, OwnLinePage, OffTheLinesPage, LongestPage, FourBytesPage, PagesFollow, blank, runs, reads, shiftAndSend, script, ownLine, nothingBehind, dataBehind, offTheLines, longest, longCalls, shiftTwice, fourCalls, answerAt, wordsOf, byteOf, numberOf, addressOf};
+ghost use Rattle.worked.specs.Worked.{worked, Two, Four, RowsKeep};
+ghost use Rattle.worked.specs.Page.{FirstPage, OwnLinePage, OffTheLinesPage, FourBytesPage, PagesFollow, runs, reads, shiftAndSend, script, ownLine, nothingBehind, dataBehind, offTheLines, shiftTwice, fourCalls, answerAt, wordsOf, byteOf, numberOf, addressOf};
 use machine::Lawful;
 use machine::board_follows_reading;
 
@@ -56,10 +55,6 @@ fn own_line_page()
 
 fn off_the_lines_page()
     ensures { λ _. ⌜ OffTheLinesPage ⌝ }
-{}
-
-fn longest_page()
-    ensures { λ _. ⌜ LongestPage ⌝ }
 {}
 
 fn four_bytes_page()
@@ -179,16 +174,6 @@ pub fn number_in_the_data() -> u8
 {
     off_the_lines_page();
     24
-}
-
-// The words of the longest loop: all that two runs executed, but the word that halts.
-pub fn words_of_the_longest_loop() -> u64
-    ensures costs { λ r. ⌜ r ≡ cost Two (Lsrm 1 2) blank ⌝ }
-    ensures board { λ r. ⌜ r + 1 ≡ wordsOf (answerAt (runs Two longest longCalls .answers) 0) + wordsOf (answerAt (runs Two longest longCalls .answers) 1) ⌝ }
-    ensures reading { λ r. ⌜ r + 1 ≡ wordsOf (answerAt (reads Two longest longCalls .answers) 0) + wordsOf (answerAt (reads Two longest longCalls .answers) 1) ⌝ }
-{
-    longest_page();
-    196_608
 }
 
 // What 40 becomes when it is shifted by three places and then by none, with words of four bytes.
