@@ -33,6 +33,7 @@ pub enum BusAnswer {
 fn sent<B: Bus>(bus: &mut B, call: BusCall) -> BusAnswer
     ensures tells { λ r. ⌜ answered call (B·Bus .meaning (now (bus .entry))) ≡ record { answer = r; after = B·Bus .meaning (now (bus .exit)) } ⌝ }
     ensures keeps { λ _. ⌜ B·Bus .lent (now (bus .exit)) ≡ B·Bus .lent (now (bus .entry)) ⌝ }
+    ensures hides { λ _. ⌜ B·Bus .hidden (now (bus .exit)) ≡ B·Bus .hidden (now (bus .entry)) ⌝ }
     ensures stores { λ _. ⌜ B·Bus .stored (now (bus .entry)) (stores-of call (B·Bus .meaning (now (bus .entry)))) (now (bus .exit)) ⌝ }
 {
     match call {
@@ -69,6 +70,7 @@ pub fn answer<B: Bus>(bus: &mut B, call: BusCall) -> BusAnswer
     ensures tells { λ r. ⌜ answered call (B·Bus .meaning (now (bus .entry))) ≡ record { answer = r; after = B·Bus .meaning (now (bus .exit)) } ⌝ }
     ensures kinds { λ _. ⌜ Same-kinds (B·Bus .meaning (now (bus .entry))) (B·Bus .meaning (now (bus .exit))) ⌝ }
     ensures keeps { λ _. ⌜ B·Bus .lent (now (bus .exit)) ≡ B·Bus .lent (now (bus .entry)) ⌝ }
+    ensures hides { λ _. ⌜ B·Bus .hidden (now (bus .exit)) ≡ B·Bus .hidden (now (bus .entry)) ⌝ }
     ensures stores { λ _. ⌜ B·Bus .stored (now (bus .entry)) (stores-of call (B·Bus .meaning (now (bus .entry)))) (now (bus .exit)) ⌝ }
 {
     sent(bus, call)

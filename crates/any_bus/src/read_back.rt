@@ -19,6 +19,7 @@ pub fn store_and_load_byte<B: Bus>(bus: &mut B, a: u16, b: u8) -> Result<u8, Bus
     ensures back { λ r. ⌜ (kind (B·Bus .meaning (now (bus .entry)) .place a) ≡ Cells → r ≡ Ok b) ⌝ }
     ensures comes { λ r. ⌜ Then (store-byte (B·Bus .meaning (now (bus .entry))) a b) (B·Bus .meaning (now (bus .entry))) (λ m. load-byte m a) r (B·Bus .meaning (now (bus .exit))) ⌝ }
     ensures keeps { λ _. ⌜ B·Bus .lent (now (bus .exit)) ≡ B·Bus .lent (now (bus .entry)) ⌝ }
+    ensures hides { λ _. ⌜ B·Bus .hidden (now (bus .exit)) ≡ B·Bus .hidden (now (bus .entry)) ⌝ }
     ensures stores { λ _. ⌜ B·Bus .stored (now (bus .entry)) (accepted (value-of (store-byte (B·Bus .meaning (now (bus .entry))) a b)) a b Byte) (now (bus .exit)) ⌝ }
 {
     bus.store_byte(a, b)?;
@@ -30,6 +31,7 @@ pub fn store_and_load_word<B: Bus>(bus: &mut B, a: u16, v: u16) -> Result<u16, B
     ensures back { λ r. ⌜ (a % 2 ≡ 0 → kind (B·Bus .meaning (now (bus .entry)) .place a) ≡ Cells → r ≡ Ok v) ⌝ }
     ensures comes { λ r. ⌜ Then (store-word (B·Bus .meaning (now (bus .entry))) a v) (B·Bus .meaning (now (bus .entry))) (λ m. load-word m a) r (B·Bus .meaning (now (bus .exit))) ⌝ }
     ensures keeps { λ _. ⌜ B·Bus .lent (now (bus .exit)) ≡ B·Bus .lent (now (bus .entry)) ⌝ }
+    ensures hides { λ _. ⌜ B·Bus .hidden (now (bus .exit)) ≡ B·Bus .hidden (now (bus .entry)) ⌝ }
     ensures stores { λ _. ⌜ B·Bus .stored (now (bus .entry)) (accepted (value-of (store-word (B·Bus .meaning (now (bus .entry))) a v)) a v Word) (now (bus .exit)) ⌝ }
 {
     bus.store_word(a, v)?;

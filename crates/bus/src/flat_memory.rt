@@ -56,6 +56,8 @@ pub impl<'a> Bus for Flat<'a> as FlatBus {
 
     ghost lent = { λ s. flat-loans (name (s .bytes)) (behind (s .bytes)) };
 
+    ghost hidden = { λ _. [] };
+
     ghost stored = { λ _ _ _. Unit {0} };
 
     ghost none = { λ _. tt };

@@ -24,6 +24,9 @@ pub trait Bus {
     // The memory lent to it. No call changes whose it is or a byte of it that is no cell, so that the lender knows all it gets back.
     ghost lent: { Self → List Loan };
 
+    // What it holds but does not show, layer by layer, outermost first. No call changes any of it.
+    ghost hidden: { Self → List Meaning };
+
     // That one state comes from another by these accepted stores, oldest first, and any other calls.
     // A bus that keeps a log of its stores says here what the log then holds; any other says nothing.
     ghost stored: { Self → List Store → Self → Type 0 };
@@ -38,30 +41,36 @@ pub trait Bus {
     fn load_byte(&mut self, a: u16) -> Result<u8, BusFault>
         ensures comes { λ r. ⌜ Comes (load-byte (meaning (now (self .entry))) a) (meaning (now (self .entry))) r (meaning (now (self .exit))) ⌝ }
         ensures keeps { λ _. ⌜ lent (now (self .exit)) ≡ lent (now (self .entry)) ⌝ }
+        ensures hides { λ _. ⌜ hidden (now (self .exit)) ≡ hidden (now (self .entry)) ⌝ }
         ensures stores { λ _. ⌜ stored (now (self .entry)) [] (now (self .exit)) ⌝ };
 
     fn load_word(&mut self, a: u16) -> Result<u16, BusFault>
         ensures comes { λ r. ⌜ Comes (load-word (meaning (now (self .entry))) a) (meaning (now (self .entry))) r (meaning (now (self .exit))) ⌝ }
         ensures keeps { λ _. ⌜ lent (now (self .exit)) ≡ lent (now (self .entry)) ⌝ }
+        ensures hides { λ _. ⌜ hidden (now (self .exit)) ≡ hidden (now (self .entry)) ⌝ }
         ensures stores { λ _. ⌜ stored (now (self .entry)) [] (now (self .exit)) ⌝ };
 
     fn store_byte(&mut self, a: u16, b: u8) -> Result<(), BusFault>
         ensures comes { λ r. ⌜ Comes (store-byte (meaning (now (self .entry))) a b) (meaning (now (self .entry))) r (meaning (now (self .exit))) ⌝ }
         ensures keeps { λ _. ⌜ lent (now (self .exit)) ≡ lent (now (self .entry)) ⌝ }
+        ensures hides { λ _. ⌜ hidden (now (self .exit)) ≡ hidden (now (self .entry)) ⌝ }
         ensures stores { λ r. ⌜ stored (now (self .entry)) (accepted r a b Byte) (now (self .exit)) ⌝ };
 
     fn store_word(&mut self, a: u16, v: u16) -> Result<(), BusFault>
         ensures comes { λ r. ⌜ Comes (store-word (meaning (now (self .entry))) a v) (meaning (now (self .entry))) r (meaning (now (self .exit))) ⌝ }
         ensures keeps { λ _. ⌜ lent (now (self .exit)) ≡ lent (now (self .entry)) ⌝ }
+        ensures hides { λ _. ⌜ hidden (now (self .exit)) ≡ hidden (now (self .entry)) ⌝ }
         ensures stores { λ r. ⌜ stored (now (self .entry)) (accepted r a v Word) (now (self .exit)) ⌝ };
 
     fn give(&mut self, b: u8) -> Result<(), BusFault>
         ensures comes { λ r. ⌜ Comes (give (meaning (now (self .entry))) b) (meaning (now (self .entry))) r (meaning (now (self .exit))) ⌝ }
         ensures keeps { λ _. ⌜ lent (now (self .exit)) ≡ lent (now (self .entry)) ⌝ }
+        ensures hides { λ _. ⌜ hidden (now (self .exit)) ≡ hidden (now (self .entry)) ⌝ }
         ensures stores { λ _. ⌜ stored (now (self .entry)) [] (now (self .exit)) ⌝ };
 
     fn take(&mut self) -> Result<u8, BusFault>
         ensures comes { λ r. ⌜ Comes (take (meaning (now (self .entry)))) (meaning (now (self .entry))) r (meaning (now (self .exit))) ⌝ }
         ensures keeps { λ _. ⌜ lent (now (self .exit)) ≡ lent (now (self .entry)) ⌝ }
+        ensures hides { λ _. ⌜ hidden (now (self .exit)) ≡ hidden (now (self .entry)) ⌝ }
         ensures stores { λ _. ⌜ stored (now (self .entry)) [] (now (self .exit)) ⌝ };
 }

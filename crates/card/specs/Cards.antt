@@ -1,12 +1,12 @@
 -- The program card: fixed cells from address 0 over another bus.
-use mathlib.Core.List.{List}
+use mathlib.Core.List.{List, []}
 use mathlib.Core.Bool.{Bool, false, cond}
 use Prim.Native.Nat.{ℕ, _%_, min}
 use lib.Dec.{eqb, ltb, leb}
 use lib.ListN.{length, getD, take}
 use Rattle.std.specs.declared.result.Result.the-variants.{Ok, Err}
 use Rattle.bus.specs.Sizes.{byte-values, word-bytes, whole-words}
-use Rattle.bus.specs.Meaning.{Place, Fixed, Meaning}
+use Rattle.bus.specs.Meaning.{Place, Fixed, Nothing, Meaning}
 use Rattle.bus.specs.Calls.{Outcome}
 use Rattle.card.specs.declared.FillFault.{FillFault}
 use Rattle.card.specs.declared.FillFault.the-variants.{WrongLength}
@@ -43,3 +43,7 @@ card-place fixed below k = cond (ltb k (length fixed)) (Fixed (getD fixed k 0 % 
 -- The meaning of a card with these bytes over a bus: all but its fixed cells is as below.
 abbrev pub card : List ℕ → Meaning → Meaning
 card fixed m = record { place = card-place fixed (m .place); waiting = m .waiting; most-waiting = m .most-waiting; sent = m .sent; most-sent = m .most-sent }
+
+-- What a card with these bytes hides of a bus: the places that it covers; it hides no other place and no queue.
+abbrev pub card-hides : List ℕ → Meaning → Meaning
+card-hides fixed m = record { place = λ k. cond (ltb k (length fixed)) (m .place k) Nothing; waiting = []; most-waiting = 0; sent = []; most-sent = 0 }

@@ -10,7 +10,7 @@ ghost use Rattle.bus.specs.Meaning.{Meaning, Facts};
 ghost use Rattle.bus.specs.Calls.{Comes, Byte, Word, word-of, peek, load-byte, load-word, store-byte, store-word, give, take};
 ghost use Rattle.bus.specs.Stores.{Store, accepted};
 ghost use Rattle.bus.specs.Loans.{Loan};
-ghost use Rattle.card.specs.Cards.{fill, fill-number, on-card, card};
+ghost use Rattle.card.specs.Cards.{fill, fill-number, on-card, card, card-hides};
 ghost use Rattle.card.specs.CardShown.{card-facts};
 use bus::Bus;
 use bus::BusFault;
@@ -141,6 +141,8 @@ pub impl<B: Bus + Drop> Bus for Card<B> as CardBus {
     ghost facts = { λ s. card-facts (s .card) (B·Bus .meaning (s .below)) (B·Bus .facts (s .below)) };
 
     ghost lent = { λ s. B·Bus .lent (s .below) };
+
+    ghost hidden = { λ s. card-hides (on-card (s .card)) (B·Bus .meaning (s .below)) ∷ B·Bus .hidden (s .below) };
 
     ghost stored = { λ _ _ _. Unit {0} };
 

@@ -55,3 +55,11 @@ at-port k = port (console-place (λ _. Nothing) k)
 -- The meaning of a console over a bus: its own waiting and sent bytes, with those below hidden.
 abbrev pub console : List ℕ → List ℕ → Meaning → Meaning
 console waiting sent m = record { place = console-place (m .place); waiting = waiting; most-waiting = console-waiting; sent = sent; most-sent = console-sent }
+
+-- What stands at `k` and is hidden: whatever lies below a port of the console's own, and elsewhere a port below.
+abbrev pub hidden-place : (ℕ → Place) → ℕ → Place
+hidden-place below k = cond (at-port k) (below k) (cond (port (below k)) (below k) Nothing)
+
+-- What a console hides of a bus: these places, and all that waits there or was sent, with the most of each.
+abbrev pub console-hides : Meaning → Meaning
+console-hides m = record { place = hidden-place (m .place); waiting = m .waiting; most-waiting = m .most-waiting; sent = m .sent; most-sent = m .most-sent }

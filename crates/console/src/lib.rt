@@ -10,7 +10,7 @@ ghost use Rattle.bus.specs.Calls.{Comes, Byte, Word, peek, load-byte, load-word
 ghost use Rattle.bus.specs.Stores.{Store, accepted};
 ghost use Rattle.bus.specs.Loans.{Loan};
 ghost use Rattle.console.specs.Rings.{items};
-ghost use Rattle.console.specs.Consoles.{console, at-port};
+ghost use Rattle.console.specs.Consoles.{console, console-hides, at-port};
 ghost use Rattle.console.specs.ConsoleShown.{items-bytes, console-facts};
 
 mod number_text;
@@ -89,6 +89,8 @@ pub impl<B: Bus + Drop> Bus for Console<B> as ConsoleBus {
     ghost facts = { λ s. console-facts (items (s .waiting)) (items (s .sent)) (B·Bus .meaning (s .below)) (items-bytes (s .waiting)) (items-bytes (s .sent)) (B·Bus .facts (s .below)) };
 
     ghost lent = { λ s. B·Bus .lent (s .below) };
+
+    ghost hidden = { λ s. console-hides (B·Bus .meaning (s .below)) ∷ B·Bus .hidden (s .below) };
 
     ghost stored = { λ _ _ _. Unit {0} };
 

@@ -11,5 +11,6 @@ returns g c =
       tells = c .sent .ensures .tells;
       kinds = subst (λ (t : Told). Same-kinds m (t .after)) (c .sent .ensures .tells) (kinds-stay (c .args .call) m (g .B·Bus .facts (c .args .bus .now)));
       keeps = c .sent .ensures .keeps;
+      hides = c .sent .ensures .hides;
       stores = c .sent .ensures .stores;
     }
