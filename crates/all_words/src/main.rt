@@ -1,5 +1,7 @@
 // Every one of the 65,536 words: its line, and what it does to two sets of registers. Words that are not valid are
 // printed as runs.
+#![tactic(auto)]
+
 mod effects;
 
 use effects::{Effect, effect_of};

@@ -1,4 +1,6 @@
 // Code written once for every bus.
+#![tactic(auto)]
+
 pub mod calls;
 pub mod read_back;
 

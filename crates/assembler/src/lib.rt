@@ -1,4 +1,6 @@
 // A text to its image.
+#![tactic(auto)]
+
 mod assemble;
 mod expansion;
 mod labels;

@@ -1,4 +1,6 @@
 // A byte-addressed bus of 65,536 addresses, and the buses of today.
+#![tactic(auto)]
+
 ghost use Rattle.std.specs.Prelude.{◌≡◌, List, [], ◌∷◌, ◌++◌};
 ghost use Rattle.bus.specs.Meaning.{Meaning, Facts};
 ghost use Rattle.bus.specs.Calls.{Comes, Byte, Word, peek, load_byte, load_word, store_byte, store_word, give, take};

@@ -1,4 +1,6 @@
 // Sends seeded calls to stacks of buses and writes every answer, to be held against a second program.
+#![tactic(auto)]
+
 mod random;
 mod report;
 mod script;

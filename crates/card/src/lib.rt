@@ -1,4 +1,6 @@
 // The program card: fixed cells from address 0 over any bus.
+#![tactic(auto)]
+
 ghost use Rattle.std.specs.Prelude.{◌≡◌, ℕ, ◌+◌, ◌%◌, ◌<◌, ◌≤◌, List, [], ◌∷◌, ◌++◌, length, if◌then◌else◌, Some, None, nat_lt, slice_index};
 ghost use Rattle.bus.specs.Meaning.{Meaning, Facts};
 ghost use Rattle.bus.specs.Calls.{Comes, Byte, Word, word_of, peek, load_byte, load_word, store_byte, store_word, give, take};

@@ -1,4 +1,6 @@
 // How many words are valid. A crate of its own, since the count is proved by looking at every word.
+#![tactic(auto)]
+
 ghost use Rattle.std.specs.Prelude.{◌≡◌};
 ghost use Rattle.census.specs.Count.{valid_words};
 

@@ -1,4 +1,6 @@
 // The console: three ports with queues of their own, over any bus.
+#![tactic(auto)]
+
 ghost use Rattle.std.specs.Prelude.{◌≡◌, ℕ, ◌+◌, ◌<◌, ◌≤◌, List, [], ◌∷◌, ◌++◌, length, if◌then◌else◌};
 ghost use Rattle.bus.specs.declared.faults.BusFault.TheVariants.{ByteAtPort, NothingThere};
 ghost use Rattle.bus.specs.Meaning.{Meaning, Facts};

@@ -1,4 +1,6 @@
 // A valid word as the line that assembles to it.
+#![tactic(auto)]
+
 mod line;
 mod listing;
 mod reports;

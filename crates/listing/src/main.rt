@@ -1,4 +1,6 @@
 // Words from standard input, four hexadecimal digits a line, as the lines that assemble to them.
+#![tactic(auto)]
+
 use anyhow::anyhow;
 use lister::report;
 use std::alloc::{AllocError, Global};

@@ -1,5 +1,7 @@
 // The longest loop of the worked machine, computed word by word. It is a crate of its own since it takes as long to check as all the other
 // pages together, and more.
+#![tactic(auto)]
+
 ghost use Rattle.std.specs.Prelude.{◌≡◌, ◌+◌, [], ◌∷◌};
 ghost use Rattle.machine.specs.Board.{Spent};
 ghost use Rattle.machine.specs.Calls.{Run, Ran};

@@ -1,5 +1,7 @@
 // Why a board does what the lines of its program say: the theory, over no particular word, line or word size.
 // The definitions stand in specs/: a machine, its board, programs of lines, what a line owes, the reading, calls, and the agreement.
+#![tactic(auto)]
+
 ghost use Rattle.machine.specs.Machine.{Machine, Laws};
 ghost use Rattle.machine.specs.Agreement.{Agreement};
 ghost use Rattle.machine.specs.Rules.{Rules};

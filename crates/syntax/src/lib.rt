@@ -1,4 +1,6 @@
 // What the lines of a text say, one by one.
+#![tactic(auto)]
+
 mod cuts;
 mod data;
 mod instructions;

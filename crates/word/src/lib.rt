@@ -1,4 +1,6 @@
 // The word rules of the Viking processor: which words are valid, what each says, and its arithmetic.
+#![tactic(auto)]
+
 pub mod arithmetic;
 mod codec;
 mod instructions;

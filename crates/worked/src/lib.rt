@@ -1,4 +1,6 @@
 // The worked machine, with words of two bytes and of four, and its pages: small programs, the calls sent to them, and the answers.
+#![tactic(auto)]
+
 ghost use Rattle.std.specs.Prelude.{◌≡◌, [], ◌∷◌, ◌++◌, Some};
 ghost use Rattle.machine.specs.Calls.{Run};
 ghost use Rattle.machine.specs.Agreement.{Agreement};
