@@ -2,8 +2,8 @@ use Rattle.std.proofs.Common.{sym, arith, rules}
 use Rattle.console.proofs.Numbers.{one-digit, more_digits, few_digits}
 use Rattle.console.proofs.number_text.+digits.Goals as goal
 
-pub overflow-add-result : goal.overflow-add-result
-overflow-add-result t c = search rules
+pub overflow_add-result : goal.overflow_add-result
+overflow_add-result t c = search rules
 
 pub returns-then-n-lt10 : goal.returns-then-n-lt10
 returns-then-n-lt10 t c = record { exact = sym (one-digit _ c.if-n-lt10.true); few = omega arith }

@@ -4,4 +4,4 @@ use Rattle.syntax.proofs.Held.{data-held}
 use Rattle.syntax.proofs.data.is_data_number.Goals as goal
 
 pub returns : goal.returns
-returns c = c.fits-held.ensures ∙ data-held (number c.args.text.now)
+returns c = c.fits_held.ensures ∙ data-held (number c.args.text.now)

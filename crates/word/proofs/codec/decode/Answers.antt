@@ -7,10 +7,10 @@ use Rattle.word.proofs.codec.decode.Goals as goal
 
 pub returns-then-word-eq0 : goal.returns-then-word-eq0
 returns-then-word-eq0 c =
-    let v : c.decode-registers.result ≡ decoded c.args.word = search rules in
+    let v : c.decode_registers.result ≡ decoded c.args.word = search rules in
     record { value = v; forth = subst⁻¹ (Gives c.args.word) v (gives c.args.word (search rules)) }
 
 pub returns-else-word-eq0 : goal.returns-else-word-eq0
 returns-else-word-eq0 c =
-    let v : c.decode-immediate.result ≡ decoded c.args.word = search rules in
+    let v : c.decode_immediate.result ≡ decoded c.args.word = search rules in
     record { value = v; forth = subst⁻¹ (Gives c.args.word) v (gives c.args.word (search rules)) }

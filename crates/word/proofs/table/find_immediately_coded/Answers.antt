@@ -2,8 +2,8 @@ use Rattle.std.proofs.Common.{rules}
 use Rattle.word.proofs.Firsts.{first_yes, first_no, first-end}
 use Rattle.word.proofs.table.find_immediately_coded.Goals as goal
 
-pub returns-then-is-immediately-coded : goal.returns-then-is-immediately-coded
-returns-then-is-immediately-coded c = search (rules, first_yes)
+pub returns-then-is_immediately_coded : goal.returns-then-is_immediately_coded
+returns-then-is_immediately_coded c = search (rules, first_yes)
 
 pub loop-m-preserved : goal.loop-m-preserved
 loop-m-preserved c = search (rules, first_no)
