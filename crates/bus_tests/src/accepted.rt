@@ -1,5 +1,5 @@
 // One accepted call of each kind.
-use crate::script::{check_calls, check_filled};
+use crate::script::{check_calls, check_filled, check_noted};
 use any_bus::BusAnswer::*;
 use any_bus::BusCall::*;
 use any_bus::read_back::{store_and_load_byte, store_and_load_in, store_and_load_word};
@@ -7,10 +7,9 @@ use bus::{BusFault, Flat};
 use card::ProgramCard;
 use console::Console;
 use std::process::Abort;
-use std::test::Fail;
 
 #[test]
-fn flat_memory(rt: HostRuntime) -> Result<(), Fail> {
+fn flat_memory(rt: HostRuntime) {
     let mut bytes = [1, 2, 3, 4];
     check_calls(
         &rt,
@@ -22,17 +21,16 @@ fn flat_memory(rt: HostRuntime) -> Result<(), Fail> {
             (StoreByte(1, 9), Done),
             (StoreWord(2, 0xABCD), Done),
         ],
-    )?;
+    );
     assert_eq!(rt;
         bytes,
         [1, 9, 0xAB, 0xCD],
         "the lender has what the bus held last"
     );
-    Ok(())
 }
 
 #[test]
-fn card_over_memory(rt: HostRuntime) -> Result<(), Fail> {
+fn card_over_memory(rt: HostRuntime) {
     let mut card = ProgramCard::new();
     check_filled(&rt, &mut card, &[1, 2], Ok(()));
     let mut bytes = [5, 6, 7, 8];
@@ -45,7 +43,7 @@ fn card_over_memory(rt: HostRuntime) -> Result<(), Fail> {
             (LoadByte(0), Loaded(1)),
             (LoadWord(0), Loaded(0x0102)),
         ],
-    )?;
+    );
     check_calls(
         &rt,
         &mut bus,
@@ -54,13 +52,18 @@ fn card_over_memory(rt: HostRuntime) -> Result<(), Fail> {
             (StoreWord(2, 0x0A0B), Done),
             (LoadWord(2), Loaded(0x0A0B)),
         ],
-    )?;
+    );
     let mut below = bus.into_below();
-    check_calls(&rt, &mut below, &[(LoadWord(0), Loaded(0x0506))]).note("what lies under the card")
+    check_noted(
+        &rt,
+        &mut below,
+        &[(LoadWord(0), Loaded(0x0506))],
+        "what lies under the card",
+    );
 }
 
 #[test]
-fn console_over_memory(rt: HostRuntime) -> Result<(), Fail> {
+fn console_over_memory(rt: HostRuntime) {
     let mut bytes = [5, 6];
     let mut bus = Console::new(Flat::new(&mut bytes));
     check_calls(
@@ -72,7 +75,7 @@ fn console_over_memory(rt: HostRuntime) -> Result<(), Fail> {
             (LoadWord(0xF004), Loaded(0xFF)),
             (LoadWord(0xF004), Loaded(2)),
         ],
-    )?;
+    );
     // of a character only the low byte is sent
     check_calls(
         &rt,
@@ -82,28 +85,28 @@ fn console_over_memory(rt: HostRuntime) -> Result<(), Fail> {
             (Take, Taken(0x41)),
             (Peek(1), Seen(Some(6))),
         ],
-    )?;
+    );
     let mut below = bus.into_below();
-    check_calls(&rt, &mut below, &[(LoadByte(0), Loaded(5))])
+    check_calls(&rt, &mut below, &[(LoadByte(0), Loaded(5))]);
 }
 
 // What the number port sends for `v`.
-fn check_text(rt: &impl Abort, v: u16, text: &[u8]) -> Result<(), Fail> {
+fn check_text(rt: &impl Abort, v: u16, text: &[u8]) {
     let mut bus = Console::new(Flat::new(&mut []));
-    check_calls(rt, &mut bus, &[(StoreWord(0xF002, v), Done)])?;
+    check_calls(rt, &mut bus, &[(StoreWord(0xF002, v), Done)]);
     for b in text {
-        check_calls(rt, &mut bus, &[(Take, Taken(*b))])?;
+        check_calls(rt, &mut bus, &[(Take, Taken(*b))]);
     }
-    check_calls(rt, &mut bus, &[(Take, Refused(BusFault::NoneSent))])
+    check_calls(rt, &mut bus, &[(Take, Refused(BusFault::NoneSent))]);
 }
 
 #[test]
-fn number_text(rt: HostRuntime) -> Result<(), Fail> {
-    check_text(&rt, 0, b"0")?;
-    check_text(&rt, 10, b"10")?;
-    check_text(&rt, 32767, b"32767")?;
-    check_text(&rt, 0x8000, b"-32768")?;
-    check_text(&rt, 0xFFFF, b"-1")
+fn number_text(rt: HostRuntime) {
+    check_text(&rt, 0, b"0");
+    check_text(&rt, 10, b"10");
+    check_text(&rt, 32767, b"32767");
+    check_text(&rt, 0x8000, b"-32768");
+    check_text(&rt, 0xFFFF, b"-1");
 }
 
 #[test]

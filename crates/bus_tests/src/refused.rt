@@ -5,10 +5,9 @@ use any_bus::BusCall::*;
 use bus::{BusFault, Flat};
 use card::{FillFault, ProgramCard};
 use console::Console;
-use std::test::Fail;
 
 #[test]
-fn odd_address_30(rt: HostRuntime) -> Result<(), Fail> {
+fn odd_address_30(rt: HostRuntime) {
     check_number(&rt, BusFault::OddAddress, 30);
     let mut bytes = [0; 4];
     // the second lies past the cells: 30 comes before 31
@@ -19,11 +18,11 @@ fn odd_address_30(rt: HostRuntime) -> Result<(), Fail> {
             (LoadWord(1), Refused(BusFault::OddAddress)),
             (StoreWord(9, 0), Refused(BusFault::OddAddress)),
         ],
-    )
+    );
 }
 
 #[test]
-fn nothing_there_31(rt: HostRuntime) -> Result<(), Fail> {
+fn nothing_there_31(rt: HostRuntime) {
     check_number(&rt, BusFault::NothingThere, 31);
     // the fifth byte is cut off
     let mut bytes = [0; 5];
@@ -34,11 +33,11 @@ fn nothing_there_31(rt: HostRuntime) -> Result<(), Fail> {
             (LoadByte(4), Refused(BusFault::NothingThere)),
             (StoreWord(4, 1), Refused(BusFault::NothingThere)),
         ],
-    )
+    );
 }
 
 #[test]
-fn byte_at_port_32(rt: HostRuntime) -> Result<(), Fail> {
+fn byte_at_port_32(rt: HostRuntime) {
     check_number(&rt, BusFault::ByteAtPort, 32);
     // also at an odd address, and the wrong way: 32 comes before 33
     let mut console = Console::new(Flat::new(&mut []));
@@ -49,11 +48,11 @@ fn byte_at_port_32(rt: HostRuntime) -> Result<(), Fail> {
             (LoadByte(0xF005), Refused(BusFault::ByteAtPort)),
             (StoreByte(0xF004, 1), Refused(BusFault::ByteAtPort)),
         ],
-    )
+    );
 }
 
 #[test]
-fn wrong_way_33(rt: HostRuntime) -> Result<(), Fail> {
+fn wrong_way_33(rt: HostRuntime) {
     check_number(&rt, BusFault::WrongWay, 33);
     let mut card = ProgramCard::new();
     check_filled(&rt, &mut card, &[1, 2], Ok(()));
@@ -67,21 +66,21 @@ fn wrong_way_33(rt: HostRuntime) -> Result<(), Fail> {
             (LoadWord(0xF002), no),
             (StoreWord(0xF004, 7), no),
         ],
-    )
+    );
 }
 
 #[test]
-fn none_waiting_34(rt: HostRuntime) -> Result<(), Fail> {
+fn none_waiting_34(rt: HostRuntime) {
     check_number(&rt, BusFault::NoneWaiting, 34);
     check_calls(
         &rt,
         &mut Console::new(Flat::new(&mut [])),
         &[(LoadWord(0xF004), Refused(BusFault::NoneWaiting))],
-    )
+    );
 }
 
 #[test]
-fn no_room_35(rt: HostRuntime) -> Result<(), Fail> {
+fn no_room_35(rt: HostRuntime) {
     check_number(&rt, BusFault::NoRoom, 35);
     let mut console = Console::new(Flat::new(&mut []));
     check_repeated(&rt, &mut console, 1019, StoreWord(0xF000, 0x2A), Done);
@@ -95,11 +94,11 @@ fn no_room_35(rt: HostRuntime) -> Result<(), Fail> {
             (StoreWord(0xF002, 32767), Done),
             (StoreWord(0xF000, 1), no),
         ],
-    )
+    );
 }
 
 #[test]
-fn waiting_full_36(rt: HostRuntime) -> Result<(), Fail> {
+fn waiting_full_36(rt: HostRuntime) {
     check_number(&rt, BusFault::WaitingFull, 36);
     let mut console = Console::new(Flat::new(&mut []));
     check_repeated(&rt, &mut console, 256, Give(1), Done);
@@ -107,21 +106,21 @@ fn waiting_full_36(rt: HostRuntime) -> Result<(), Fail> {
         &rt,
         &mut console,
         &[(Give(1), Refused(BusFault::WaitingFull))],
-    )
+    );
 }
 
 #[test]
-fn none_sent_37(rt: HostRuntime) -> Result<(), Fail> {
+fn none_sent_37(rt: HostRuntime) {
     check_number(&rt, BusFault::NoneSent, 37);
     check_calls(
         &rt,
         &mut Console::new(Flat::new(&mut [])),
         &[(Take, Refused(BusFault::NoneSent))],
-    )
+    );
 }
 
 #[test]
-fn wrong_length_38(rt: HostRuntime) -> Result<(), Fail> {
+fn wrong_length_38(rt: HostRuntime) {
     assert_eq!(rt; FillFault::WrongLength.number(), 38);
     let mut card = ProgramCard::new();
     check_filled(&rt, &mut card, &[7, 8], Ok(()));
@@ -132,5 +131,5 @@ fn wrong_length_38(rt: HostRuntime) -> Result<(), Fail> {
         &rt,
         &mut card.over(Flat::new(&mut [])),
         &[(Peek(1), Seen(Some(8))), (Peek(2), Seen(None))],
-    )
+    );
 }

@@ -3,18 +3,22 @@ use any_bus::{BusAnswer, BusCall, answer};
 use bus::{Bus, BusFault};
 use card::{FillFault, ProgramCard};
 use std::process::Abort;
-use std::test::Fail;
 
 // Sends each call in turn.
-pub fn check_calls<B: Bus>(
+pub fn check_calls<B: Bus>(rt: &impl Abort, bus: &mut B, script: &[(BusCall, BusAnswer)]) {
+    check_noted(rt, bus, script, "an answer");
+}
+
+// The same, with what the calls show, for the message of a test that fails.
+pub fn check_noted<B: Bus>(
     rt: &impl Abort,
     bus: &mut B,
     script: &[(BusCall, BusAnswer)],
-) -> Result<(), Fail> {
+    note: &str,
+) {
     for (call, said) in script {
-        assert_eq!(rt; answer(bus, *call), *said);
+        assert_eq!(rt; answer(bus, *call), *said, "{note}");
     }
-    Ok(())
 }
 
 // One call, sent `times` times.

@@ -1,20 +1,19 @@
 // What a bus hides of the bus below it.
-use crate::script::{check_calls, check_filled};
+use crate::script::{check_calls, check_filled, check_noted};
 use any_bus::BusAnswer::*;
 use any_bus::BusCall::*;
 use bus::{BusFault, Flat};
 use card::ProgramCard;
 use console::Console;
-use std::test::Fail;
 
 #[test]
-fn console_over_console(rt: HostRuntime) -> Result<(), Fail> {
+fn console_over_console(rt: HostRuntime) {
     let mut lower = Console::new(Flat::new(&mut []));
     check_calls(
         &rt,
         &mut lower,
         &[(Give(1), Done), (StoreWord(0xF000, 2), Done)],
-    )?;
+    );
     let mut upper = Console::new(lower);
     check_calls(
         &rt,
@@ -23,14 +22,14 @@ fn console_over_console(rt: HostRuntime) -> Result<(), Fail> {
             (LoadWord(0xF004), Refused(BusFault::NoneWaiting)),
             (Take, Refused(BusFault::NoneSent)),
         ],
-    )?;
+    );
     check_calls(
         &rt,
         &mut upper,
         &[(Give(3), Done), (StoreWord(0xF000, 4), Done)],
-    )?;
+    );
     let mut lower = upper.into_below();
-    check_calls(
+    check_noted(
         &rt,
         &mut lower,
         &[
@@ -38,12 +37,12 @@ fn console_over_console(rt: HostRuntime) -> Result<(), Fail> {
             (Take, Taken(2)),
             (Take, Refused(BusFault::NoneSent)),
         ],
-    )
-    .note("what was hidden is as it was")
+        "what was hidden is as it was",
+    );
 }
 
 #[test]
-fn card_over_console(rt: HostRuntime) -> Result<(), Fail> {
+fn card_over_console(rt: HostRuntime) {
     let mut card = ProgramCard::new();
     check_filled(&rt, &mut card, &[1, 2], Ok(()));
     let mut bytes = [5, 6, 7, 8];
@@ -57,11 +56,11 @@ fn card_over_console(rt: HostRuntime) -> Result<(), Fail> {
             (LoadWord(0), Loaded(0x0102)),
             (LoadWord(2), Loaded(0x0708)),
         ],
-    )
+    );
 }
 
 #[test]
-fn console_over_card(rt: HostRuntime) -> Result<(), Fail> {
+fn console_over_card(rt: HostRuntime) {
     let mut card = ProgramCard::new();
     check_filled(&rt, &mut card, &[1, 2], Ok(()));
     let mut bytes = [0; 65536];
@@ -76,5 +75,5 @@ fn console_over_card(rt: HostRuntime) -> Result<(), Fail> {
             (StoreByte(0xF006, 7), Done),
             (LoadByte(0xEFFF), Loaded(0)),
         ],
-    )
+    );
 }

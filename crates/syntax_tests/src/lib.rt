@@ -1,7 +1,6 @@
 // Examples of lines and their refusals. A crate of its own, so that `syntax` is not proved twice.
 #![tactic(auto)]
 
-
 #[cfg(test)]
 mod tests {
     use syntax::{read_data, read_statement};

@@ -10,7 +10,7 @@ returns-in-Some c =
       comes = λ most bytes. ap
           (λ (d : Option Datum). place_data (room most (size c.args.lines.now)) (state_of c.args.at (filled c.args.labels.now) (filled c.args.lines.now)) bytes c.args.name.now d)
           (sym c.in-Some.ensures.value)
-          ∙ c.place-data.ensures.comes most bytes;
-      kept = c.place-data.ensures.kept;
-      spared = c.place-data.ensures.spared;
+          ∙ c.place_data.ensures.comes most bytes;
+      kept = c.place_data.ensures.kept;
+      spared = c.place_data.ensures.spared;
     }

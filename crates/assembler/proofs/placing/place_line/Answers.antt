@@ -11,12 +11,12 @@ returns-in-Ok c =
     let free : Room = room (size c.args.labels.now) (size c.args.lines.now) in
     let s : Placing = state_of c.args.at (filled c.args.labels.now) (filled c.args.lines.now) in
     let comes : place_line free c.args.text.now s c.args.line.now
-    ≡ came_to c.place-statement.result s (length c.args.line.now) (filled c.place-statement.new.labels) (filled c.place-statement.new.lines) =
+    ≡ came_to c.place_statement.result s (length c.args.line.now) (filled c.place_statement.new.labels) (filled c.place_statement.new.lines) =
     ap (λ (r : Result Statement LineFault). place_statement free c.args.text.now s (length c.args.line.now) r) (sym c.in-Ok.ensures.value)
-    ∙ c.place-statement.ensures.comes (length c.args.line.now) in
+    ∙ c.place_statement.ensures.comes (length c.args.line.now) in
     record {
       comes = comes;
-      kept = c.place-statement.ensures.kept;
-      spared = c.place-statement.ensures.spared;
-      bound = memory_bound free c.args.text.now s c.args.line.now c.place-statement.result _ _ comes;
+      kept = c.place_statement.ensures.kept;
+      spared = c.place_statement.ensures.spared;
+      bound = memory_bound free c.args.text.now s c.args.line.now c.place_statement.result _ _ comes;
     }

@@ -11,7 +11,7 @@ returns-in-Code c =
       comes = λ bytes. ap
           (λ (s : Statement). place_statement (room (size c.args.labels.now) (size c.args.lines.now)) c.args.text.now (state_of c.args.at (filled c.args.labels.now) (filled c.args.lines.now)) bytes (Ok (statement_of s)))
           c.in-Code.is
-          ∙ c.place-code.ensures.comes (filled c.args.labels.now) (size c.args.labels.now) bytes;
-      kept = c.place-code.ensures.kept (filled c.args.labels.now);
-      spared = ((omega arith, refl, refl, refl), c.place-code.ensures.spared);
+          ∙ c.place_code.ensures.comes (filled c.args.labels.now) (size c.args.labels.now) bytes;
+      kept = c.place_code.ensures.kept (filled c.args.labels.now);
+      spared = ((omega arith, refl, refl, refl), c.place_code.ensures.spared);
     }
