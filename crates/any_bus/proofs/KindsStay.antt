@@ -5,7 +5,7 @@ use Rattle.bus.specs.Meaning.{Meaning, Place, Cell, Fixed, CharacterPort, Number
 use Rattle.bus.specs.Calls.{OnBus, Width, Byte, Word, Way, ToLoad, aligned, something, wide, goes, ask, questions, with_place, with_waiting, with_sent, byte_of, word_of, low_byte, number_text, input, send, write_word, load_byte, load_word, store_byte, store_word, give, take, receive, take_from}
 use Rattle.any_bus.specs.Answers.{told, answered, SameKinds}
 use Rattle.bus.specs.declared.faults.BusFault.{BusFault}
-use Rattle.bus.specs.declared.faults.BusFault.TheVariants.{OddAddress, NothingThere, ByteAtPort, WrongWay, NoneWaiting, NoRoom, WaitingFull, NoneSent}
+use Rattle.bus.specs.declared.faults.BusFault.TheVariants.{OddAddress, NothingThere, ByteAtPort, WrongWay, NoneWaiting, NoneSent}
 use Rattle.any_bus.specs.declared.calls.BusAnswer.{BusAnswer}
 use Rattle.any_bus.specs.declared.calls.BusCall.{BusCall}
 use Rattle.any_bus.specs.declared.calls.BusCall.TheVariants.{Peek, LoadByte, LoadWord, StoreByte, StoreWord, Give, Take}

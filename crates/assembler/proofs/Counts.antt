@@ -1,11 +1,11 @@
 -- As many words as are counted.
-use Rattle.std.proofs.Common.{◌≡◌, ℕ, Bool, true, false, length, ℤ, refl, arith}
+use Rattle.std.proofs.Common.{◌≡◌, ℕ, true, false, length, ℤ, refl, arith}
 use Rattle.word.specs.declared.registers.Register.{Register}
 use Rattle.word.specs.declared.instructions.Shift.TheVariants.{Lsr, Asr}
 use Rattle.word.specs.declared.instructions.Width.TheVariants.{Byte, Word}
 use Rattle.word.specs.declared.instructions.Operation.{Operation}
 use Rattle.word.specs.declared.instructions.Operation.TheVariants.{Computes, Shifts, Loads, Stores, Branches, LoadsRegister, LoadsConstant, Halts}
-use Rattle.syntax.specs.Rows.{Row, registers, immediate, negation, constant, load_from, store_to, branch_to, long_shift, in_range, registers_fit}
+use Rattle.syntax.specs.Rows.{registers, immediate, negation, constant, load_from, store_to, branch_to, long_shift, in_range, registers_fit}
 use Rattle.assembler.specs.Expansions.{spelled}
 use Rattle.assembler.specs.Laws.{CountsStand}
 

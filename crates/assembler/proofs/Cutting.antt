@@ -1,5 +1,5 @@
 -- A text cut behind its first line.
-use Rattle.std.proofs.Common.{◌≡◌, ℕ, suc, ◌+◌, ◌<◌, ◌≤◌, Bool, true, false, cond, List, [], ◌∷◌, length, Some, None, Option, sym, refl, ap, ◌∙◌, arith}
+use Rattle.std.proofs.Common.{◌≡◌, ℕ, suc, ◌+◌, ◌<◌, ◌≤◌, Bool, true, false, cond, List, [], ◌∷◌, length, Some, None, refl, ap, ◌∙◌, arith}
 use Rattle.syntax.specs.declared.cuts.Separator.{Separator}
 use Rattle.syntax.specs.declared.cuts.Separator.TheVariants.{LineFeed}
 use Rattle.syntax.specs.Characters.{parts}

@@ -1,8 +1,8 @@
 -- Placing line after line.
-use Rattle.std.proofs.Common.{◌≡◌, ℕ, ◌+◌, ◌-◌, ◌≤◌, List, [], ◌∷◌, length, drop, Ok, Err, Result, sym, refl, ap, ◌∙◌, arith, drop-drop}
+use Rattle.std.proofs.Common.{◌≡◌, ℕ, ◌+◌, ◌-◌, List, ◌∷◌, drop, Ok, Err, Result, sym, ap, ◌∙◌, arith, drop-drop}
 use Rattle.assembler.specs.declared.records.Refusal.{Refusal}
 use Rattle.assembler.specs.declared.table.Table.{Table}
-use Rattle.assembler.specs.Tables.{size, Spared}
+use Rattle.assembler.specs.Tables.{Spared}
 use Rattle.assembler.specs.Placing.{Room, Placing, Course, Stopped, place_line, place}
 
 module _ (free : Room) (text : List ℕ) (s : Placing) (l : List ℕ) (ls : List (List ℕ)) where

@@ -1,5 +1,5 @@
 -- What assembling a text comes to: all questions in their order.
-use Rattle.std.specs.Prelude.{ℕ, ◌+◌, Bool, true, false, cond, List, [], ◌∷◌, ◌++◌, length, drop, Some, None, Ok, Err, Option, Result, nat_le}
+use Rattle.std.specs.Prelude.{ℕ, ◌+◌, cond, List, [], ◌++◌, length, drop, Some, None, Ok, Err, Option, Result, nat_le}
 use Rattle.syntax.specs.Cuts.{lines}
 use Rattle.assembler.specs.declared.assemble.Assembled.{Assembled}
 use Rattle.assembler.specs.declared.assemble.Refused.{Refused}

@@ -1,5 +1,5 @@
 -- Expansions: the instructions that a row spells.
-use Rattle.std.specs.Prelude.{ℕ, ◌-◌, ◌/◌, ◌%◌, Bool, List, [], ◌∷◌, ◌++◌, map, take, ℤ, pos, negsuc, Some, None, Option}
+use Rattle.std.specs.Prelude.{ℕ, ◌-◌, ◌/◌, ◌%◌, List, [], ◌∷◌, ◌++◌, map, take, ℤ, pos, negsuc, Some, None, Option}
 use Rattle.word.specs.declared.registers.Register.{Register}
 use Rattle.word.specs.declared.instructions.Computation.TheVariants.{Xor, Add, Sub}
 use Rattle.word.specs.declared.instructions.Shift.TheVariants.{Lsr, Asr}

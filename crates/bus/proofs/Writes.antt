@@ -1,5 +1,5 @@
 -- What a write to the bytes of flat memory makes of its meaning and of its loan.
-use Rattle.std.proofs.Common.{◌≡◌, ℕ, ◌<◌, List, [], ◌∷◌, length, drop, set, Ok, ap, length-set, drop-set-lt, rules}
+use Rattle.std.proofs.Common.{◌≡◌, ℕ, ◌<◌, List, [], ◌∷◌, length, drop, set, ap, length-set, drop-set-lt, rules}
 use base.Fml.{GName}
 use Rattle.bus.specs.Meaning.{Cell}
 use Rattle.bus.specs.Calls.{with_place}

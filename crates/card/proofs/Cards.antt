@@ -1,5 +1,5 @@
 -- The bytes on a card.
-use Rattle.std.proofs.Common.{◌≡◌, ℕ, ◌+◌, ◌%◌, ◌<◌, ◌≤◌, min, List, ◌++◌, length, get_or, take, ap, ◌∙◌, arith, length-append, length-take, get_or-take, take_at}
+use Rattle.std.proofs.Common.{◌≡◌, ℕ, ◌%◌, ◌<◌, ◌≤◌, min, List, ◌++◌, length, get_or, take, ap, ◌∙◌, arith, length-append, length-take, get_or-take, take_at}
 use native.Mathlib.Nat.{min-eq_left, min-le_left}
 use Rattle.std.proofs.lemmas.Bool.Decides.{nat_tests}
 use Rattle.bus.specs.Sizes.{whole_words}

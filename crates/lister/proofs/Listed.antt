@@ -1,10 +1,10 @@
 -- What the lister answers where the line is known.
-use Rattle.std.proofs.Common.{◌≡◌, ℕ, ◌<◌, ◌≤◌, Bool, true, false, cond, leb, List, [], ◌∷◌, ◌++◌, length, take, drop, Some, None, Ok, Err, Option, sym, refl, ap, ◌∙◌, arith, length-take}
+use Rattle.std.proofs.Common.{◌≡◌, ℕ, ◌<◌, ◌≤◌, true, false, cond, leb, List, ◌++◌, length, take, drop, Some, Ok, Err, Option, sym, ap, ◌∙◌, arith, length-take}
 use Rattle.std.proofs.lemmas.Bool.Decides.{nat_tests}
 use Rattle.word.specs.declared.instructions.Instruction.{Instruction}
 use Rattle.lister.specs.Lines.{line_of}
 use Rattle.lister.specs.Answers.{answer_to, buffer_for}
-use Rattle.lister.specs.declared.listing.Refusal.TheVariants.{NotValid, DoesNotFit}
+use Rattle.lister.specs.declared.listing.Refusal.TheVariants.{DoesNotFit}
 
 module _ (o : Option Instruction) (i : Instruction) (bytes s : List ℕ) (n : ℕ) (is : o ≡ Some i) (text : take n bytes ≡ line_of i) (inside : n ≤ length bytes) where
   long : length (line_of i) ≡ n

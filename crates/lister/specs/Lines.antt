@@ -1,5 +1,5 @@
 -- The line of an instruction, as bytes.
-use Rattle.std.specs.Prelude.{ℕ, ◌+◌, ◌-◌, ◌/◌, ◌%◌, Bool, true, false, cond, List, [], ◌∷◌, ◌++◌, codes, nat_lt}
+use Rattle.std.specs.Prelude.{ℕ, ◌+◌, ◌-◌, ◌/◌, ◌%◌, cond, List, [], ◌∷◌, ◌++◌, codes, nat_lt}
 use Rattle.word.specs.declared.registers.Register.{Register}
 use Rattle.word.specs.declared.instructions.Instruction.{Instruction}
 use Rattle.word.specs.declared.instructions.Fields.{Fields}

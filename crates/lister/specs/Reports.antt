@@ -1,5 +1,5 @@
 -- What is printed for a line of input that should name a word.
-use Rattle.std.specs.Prelude.{◌≡◌, ℕ, ◌+◌, ◌-◌, ◌*◌, Bool, true, false, cond, ◌&&◌, List, [], ◌∷◌, ◌++◌, length, Some, None, codes, decimal, Option, Result, MatchResult, ◌==◌, nat_le, slice_index}
+use Rattle.std.specs.Prelude.{◌≡◌, ℕ, ◌+◌, ◌-◌, ◌*◌, Bool, true, false, cond, ◌&&◌, List, ◌++◌, length, Some, None, codes, decimal, Option, Result, MatchResult, ◌==◌, nat_le, slice_index}
 use Rattle.std.specs.declared.alloc.AllocError.{AllocError}
 use Rattle.word.specs.declared.instructions.Instruction.{Instruction}
 use Rattle.word.specs.Words.{decoded}

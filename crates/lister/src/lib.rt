@@ -50,7 +50,7 @@ mod tests {
         assert!(rt; report(rt.alloc(), 1, b"2dFF", &mut out)?);
         assert!(rt; !report(rt.alloc(), 2, b"0007", &mut out)?);
         assert!(rt; !report(rt.alloc(), 31, b"12g4", &mut out)?);
-        let expected =
+        let expected: &[u8] =
             b"\txor r5,-1\nrefused 16\nline 31: not a word, four hexadecimal digits expected\n";
         assert!(rt; out.as_slice() == expected);
         assert_eq!(rt; word_in(b"aBc9"), Some(0xABC9));

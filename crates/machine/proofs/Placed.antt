@@ -2,7 +2,7 @@
 use Rattle.std.proofs.Common.{◌≡◌, ℕ, suc, ◌+◌, ◌*◌, ◌<◌, ◌≤◌, Bool, true, false, eqb, ltb, leb, List, [], ◌∷◌, ◌++◌, length, get_or, Some, Ok, sym, refl, ap, ◌∙◌, subst, add_assoc, zero-add, arith, length-append, ltb-true, eqb-true}
 use lib.ListN.{get_or-append}
 use Rattle.machine.specs.Machine.{Machine, Laws, outcome, any, Shows}
-use Rattle.machine.specs.Board.{fetch, does, step, placed}
+use Rattle.machine.specs.Board.{fetch, step, placed}
 use Rattle.machine.specs.Program.{Line, Item, Code, Data, bytes, image, line_at, within, in_line, Stands}
 use Rattle.machine.specs.Obligation.{word_at, Does, AllValid, Owes, Keeps}
 use Rattle.machine.proofs.Facts.{true≢false, leb_yes, ltb_yes, ltb_no, any_apart}

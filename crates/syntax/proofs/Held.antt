@@ -1,6 +1,5 @@
 -- A number held no further than the bound is judged as the number itself.
-use Rattle.std.proofs.Common.{◌≡◌, ℕ, ◌-◌, ◌<◌, ◌≤◌, min, Bool, true, false, cond, ◌&&◌, leb, List, [], ◌∷◌, ℤ, pos, negsuc, Some, None, Ok, Err, Option, Result, sym, refl, ap, ◌∙◌, arith}
-use lib.Signed.{le_z}
+use Rattle.std.proofs.Common.{◌≡◌, ℕ, ◌-◌, min, Bool, true, false, cond, List, [], ◌∷◌, ℤ, pos, negsuc, Some, None, Err, Option, sym, refl, ap, ◌∙◌, arith}
 use Rattle.std.specs.Option.{option_map}
 use Rattle.std.proofs.lemmas.Bool.Decides.{nat_tests}
 use Rattle.std.proofs.lemmas.Bool.{cond-false}
@@ -13,12 +12,11 @@ use Rattle.word.specs.Table.{row}
 use Rattle.syntax.specs.declared.mnemonics.Pseudo.TheVariants.{Nop, Lsl, Not, Neg, Ldi, Lsrm, Asrm, Lslm}
 use Rattle.syntax.specs.declared.mnemonics.Mnemonic.{Mnemonic}
 use Rattle.syntax.specs.declared.mnemonics.Mnemonic.TheVariants.{OfWord, OfPseudo}
-use Rattle.syntax.specs.declared.rows.InstructionFault.{InstructionFault}
-use Rattle.syntax.specs.declared.rows.InstructionFault.TheVariants.{OutOfRange, WrongRegister}
+use Rattle.syntax.specs.declared.rows.InstructionFault.TheVariants.{OutOfRange}
 use Rattle.syntax.specs.Numbers.{number, bound, held, held_number}
 use Rattle.syntax.specs.Names.{register_in, is_name}
 use Rattle.syntax.specs.Operands.{Operand, register, numeral, name, Operands, none, one, two, three, or_number, or_name, or_register, operand_by, and_then, after_three, after_two, after_one, after_none, operands_by}
-use Rattle.syntax.specs.Rows.{Row, immediate, constant, load_from, store_to, plain, fits_byte, fits_word, in_range, registers_fit, asked, judged, of_number, row_of}
+use Rattle.syntax.specs.Rows.{Row, immediate, constant, load_from, store_to, plain, fits_byte, fits_word, in_range, asked, judged, of_number, row_of}
 use Rattle.syntax.specs.declared.statements.Beginning.{Beginning}
 use Rattle.syntax.specs.declared.statements.Beginning.TheVariants.{Semicolon, Tab, Space, Other}
 use Rattle.syntax.specs.Statements.{with_operands, with_mnemonic, instruction_by, beginning, kind_of, kind_by, is_clean, with_row, said_by, statement_by, statement_in}

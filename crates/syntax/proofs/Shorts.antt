@@ -1,5 +1,5 @@
 -- How long the parts of a line are.
-use Rattle.std.proofs.Common.{◌≡◌, ℕ, suc, ◌<◌, ◌≤◌, Bool, true, false, cond, not, ◌&&◌, leb, List, [], ◌∷◌, length, is_some, IfOk, Some, None, Ok, Err, Option, Result, sym, refl, ap, ◌∙◌, subst, arith}
+use Rattle.std.proofs.Common.{◌≡◌, ℕ, suc, ◌≤◌, Bool, true, false, cond, not, ◌&&◌, leb, List, [], ◌∷◌, length, is_some, IfOk, Some, None, Ok, Err, Option, Result, sym, refl, ap, subst, arith}
 use Rattle.std.proofs.lemmas.Bool.Decides.{nat_tests}
 use Rattle.syntax.specs.declared.cuts.Separator.{Separator}
 use Rattle.syntax.specs.declared.cuts.Separator.TheVariants.{Blank}
@@ -17,7 +17,7 @@ use Rattle.syntax.specs.Numbers.{number}
 use Rattle.syntax.specs.Mnemonics.{mnemonic_in}
 use Rattle.syntax.specs.Operands.{Operands, operands_by}
 use Rattle.syntax.specs.Rows.{Row, row_of, judged, mapped_ok}
-use Rattle.syntax.specs.Statements.{Statement, empty, labelled, code, Line, label, is_plain, is_clean, with_operands, with_mnemonic, instruction_by, beginning, kind_of, kind_by, with_row, said_by, statement_in, statement_of}
+use Rattle.syntax.specs.Statements.{Statement, empty, labelled, code, label, is_plain, is_clean, with_mnemonic, beginning, kind_of, kind_by, with_row, said_by, statement_in, statement_of}
 use Rattle.syntax.specs.Bounds.{RestShort, Short}
 
 both : (a b : Bool) → (a && b) ≡ true → (a ≡ true) × (b ≡ true)

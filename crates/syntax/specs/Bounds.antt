@@ -1,6 +1,5 @@
 -- How long the parts of a line are.
 use Rattle.std.specs.Prelude.{ℕ, ◌≤◌, List, length, Some, None, Option}
-use Rattle.syntax.specs.Rows.{Row}
 use Rattle.syntax.specs.Statements.{Statement, empty, labelled, code}
 
 -- What stands behind a label, where something does, has at most so many bytes.

@@ -1,6 +1,6 @@
 -- Characters, as bytes.
 use Prim.Native.String.{String}
-use Rattle.std.specs.Prelude.{ℕ, Bool, true, false, ◌&&◌, ◌||◌, List, [], ◌∷◌, codes, ◌==◌, nat_le, slice_index}
+use Rattle.std.specs.Prelude.{ℕ, Bool, true, ◌&&◌, ◌||◌, List, [], ◌∷◌, codes, ◌==◌, nat_le, slice_index}
 use Rattle.syntax.specs.declared.cuts.Separator.{Separator}
 use Rattle.syntax.specs.declared.cuts.Separator.TheVariants.{LineFeed, Blank, Space, Comma, Quote}
 

@@ -1,6 +1,5 @@
 -- Data behind a label: a string in double quotes, or numbers with one space between.
 use Rattle.std.specs.Prelude.{ℕ, ◌-◌, ◌/◌, ◌%◌, Bool, true, false, cond, ◌&&◌, List, [], ◌∷◌, ◌++◌, length, ℤ, pos, negsuc, Some, None, Option, ◌==◌}
-use Rattle.std.specs.Option.{option_map}
 use Rattle.syntax.specs.declared.cuts.Separator.TheVariants.{Space, Quote}
 use Rattle.syntax.specs.declared.data.Data.{Data}
 use Rattle.syntax.specs.declared.data.Data.TheVariants.{Text, Numbers}

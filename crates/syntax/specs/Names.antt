@@ -1,5 +1,5 @@
 -- Registers and names.
-use Rattle.std.specs.Prelude.{ℕ, ◌-◌, Bool, true, false, cond, not, ◌&&◌, ◌||◌, List, [], ◌∷◌, length, is_some, Some, None, Option, nat_le}
+use Rattle.std.specs.Prelude.{ℕ, ◌-◌, Bool, false, cond, not, ◌&&◌, ◌||◌, List, [], ◌∷◌, length, is_some, Some, None, Option, nat_le}
 use Rattle.std.specs.Option.{option_map}
 use Rattle.word.specs.declared.registers.Register.{Register}
 use Rattle.word.specs.Registers.{register}

@@ -1,6 +1,5 @@
 -- Operands.
-use Rattle.std.specs.Prelude.{ℕ, Bool, true, false, cond, List, [], ◌∷◌, ℤ, Some, None, Option}
-use Rattle.std.specs.Option.{option_map}
+use Rattle.std.specs.Prelude.{ℕ, Bool, true, false, List, [], ◌∷◌, ℤ, Some, None, Option}
 use Rattle.word.specs.declared.registers.Register.{Register}
 use Rattle.word.specs.Registers.{register as numbered}
 use Rattle.syntax.specs.declared.cuts.Separator.TheVariants.{Comma}

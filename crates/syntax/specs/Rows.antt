@@ -1,5 +1,5 @@
 -- Rows: which lines there are, by mnemonic and operands.
-use Rattle.std.specs.Prelude.{ℕ, Bool, true, false, cond, not, ◌&&◌, List, [], ◌∷◌, ℤ, pos, negsuc, Some, None, Ok, Err, Option, Result, ◌==◌, int_le}
+use Rattle.std.specs.Prelude.{ℕ, Bool, true, false, cond, not, ◌&&◌, List, ℤ, pos, negsuc, Some, None, Ok, Err, Option, Result, ◌==◌, int_le}
 use Rattle.word.specs.declared.registers.Register.{Register}
 use Rattle.word.specs.declared.instructions.Computation.TheVariants.{And, Xor, Add}
 use Rattle.word.specs.declared.instructions.Width.{Width}
@@ -13,7 +13,6 @@ use Rattle.word.specs.declared.table.Extension.TheVariants.{Absent, ZeroExtended
 use Rattle.word.specs.Registers.{register as numbered}
 use Rattle.word.specs.Table.{row}
 use Rattle.word.specs.Words.{is_zero, keeps_zero}
-use Rattle.syntax.specs.declared.mnemonics.Pseudo.{Pseudo}
 use Rattle.syntax.specs.declared.mnemonics.Pseudo.TheVariants.{Nop, Lsl, Not, Neg, Ldi, Lsrm, Asrm, Lslm}
 use Rattle.syntax.specs.declared.mnemonics.Mnemonic.{Mnemonic}
 use Rattle.syntax.specs.declared.mnemonics.Mnemonic.TheVariants.{OfWord, OfPseudo}

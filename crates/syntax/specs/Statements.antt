@@ -1,5 +1,5 @@
 -- Lines: what each says, and the questions that a line answers by itself.
-use Rattle.std.specs.Prelude.{ℕ, Bool, true, false, cond, ◌&&◌, ◌||◌, List, [], ◌∷◌, length, ℤ, Some, None, Ok, Err, Option, Result, nat_le}
+use Rattle.std.specs.Prelude.{ℕ, Bool, cond, ◌&&◌, ◌||◌, List, [], ◌∷◌, length, ℤ, Some, None, Ok, Err, Option, Result, nat_le}
 use Rattle.std.specs.Option.{option_map}
 use Rattle.syntax.specs.declared.cuts.Separator.TheVariants.{Blank}
 use Rattle.syntax.specs.declared.mnemonics.Mnemonic.{Mnemonic}

@@ -8,9 +8,7 @@ use Rattle.word.specs.declared.instructions.Operation.{Operation}
 use Rattle.word.specs.declared.instructions.Operation.TheVariants.{Computes, Shifts, Loads, Stores, Branches, LoadsRegister, LoadsConstant, Halts}
 use Rattle.word.specs.declared.instructions.Instruction.{Instruction}
 use Rattle.word.specs.declared.instructions.Instruction.TheVariants.{Compute, ComputeImmediate, Shift, Load, Store, Branch, BranchImmediate, LoadRegister, LoadConstant, Halt}
-use Rattle.word.specs.declared.instructions.Fields.{Fields}
 use Rattle.word.specs.declared.instructions.Fields.TheVariants.{Registers, Immediate}
-use Rattle.word.specs.declared.table.Shape.{Shape}
 use Rattle.word.specs.Registers.{register}
 use Rattle.word.specs.Table.{row, coded, immediately_coded}
 use Rattle.word.specs.Words.{register_word, immediate_word, fields, packed, encoded, is_zero, keeps_zero, with_registers, with_immediate, of_registers, of_immediate, decoded}

@@ -1,5 +1,5 @@
 -- What the table's searches find.
-use Rattle.std.proofs.Common.{◌≡◌, ℕ, ◌<◌, Bool, true, false, cond, ◌&&◌, eqb, List, [], ◌∷◌, map, Some, None, Option, sym, refl, ap, ◌∙◌, arith, lit<}
+use Rattle.std.proofs.Common.{◌≡◌, ℕ, ◌<◌, Bool, true, false, cond, ◌&&◌, eqb, List, [], ◌∷◌, map, Some, sym, refl, ap, ◌∙◌, arith, lit<}
 use Rattle.std.proofs.lemmas.Bool.Decides.{nat_tests}
 use Rattle.word.specs.declared.instructions.Computation.{Computation}
 use Rattle.word.specs.declared.instructions.Computation.TheVariants.{And, Or, Xor, Slt, Sltu, Add, Sub}
@@ -11,7 +11,7 @@ use Rattle.word.specs.declared.instructions.Operation.{Operation}
 use Rattle.word.specs.declared.instructions.Operation.TheVariants.{Computes, Shifts, Loads, Stores, Branches, LoadsRegister, LoadsConstant, Halts}
 use Rattle.word.specs.declared.table.Shape.{Shape}
 use Rattle.word.specs.declared.table.Shape.TheVariants.{ThreeRegisters, LastZero, MiddleZero, FirstZero, NoOperands, NumberOnly}
-use Rattle.word.specs.Table.{Row, Entry, row, entry, entries, operations, first, is_coded, coded, takes_immediate, is_immediately_coded, immediately_coded}
+use Rattle.word.specs.Table.{Row, row, entry, operations, first, is_coded, coded, takes_immediate, is_immediately_coded, immediately_coded}
 
 pub both : (a b : Bool) → (a && b) ≡ true → (a ≡ true) × (b ≡ true)
 both true b e = (refl, e)

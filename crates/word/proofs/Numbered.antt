@@ -1,5 +1,5 @@
 -- A register is known by its number.
-use Rattle.std.proofs.Common.{◌≡◌, ℕ, ◌%◌, ◌<◌, refl, ap, subst, arith}
+use Rattle.std.proofs.Common.{◌≡◌, ℕ, ◌<◌, ap, subst, arith}
 use native.Mathlib.Bridge.{le_prop}
 use Rattle.word.specs.declared.registers.Register.{Register}
 use Rattle.word.specs.Registers.{register}

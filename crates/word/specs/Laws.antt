@@ -1,9 +1,9 @@
 -- A word and its instruction say the same.
-use Rattle.std.specs.Prelude.{◌≡◌, ℕ, ◌<◌, true, Some, None, Option}
+use Rattle.std.specs.Prelude.{◌≡◌, ℕ, ◌<◌, Some, None, Option}
 use Rattle.word.specs.declared.instructions.Instruction.{Instruction}
 use Rattle.word.specs.declared.instructions.Fields.{Fields}
 use Rattle.word.specs.declared.instructions.Fields.TheVariants.{Registers, Immediate}
-use Rattle.word.specs.Words.{fields, encoded, decoded, is_valid}
+use Rattle.word.specs.Words.{fields, encoded, decoded}
 
 -- The immediate, where there is one, is a byte.
 abbrev pub ByteIn : Fields → Type 0

@@ -1,12 +1,8 @@
-use Rattle.std.proofs.Common.{◌≡◌, ℕ, suc, ◌+◌, ◌<◌, true, false, List, [], ◌∷◌, length, Ok, Err, Result, sym, ap, ◌∙◌, arith}
+use Rattle.std.proofs.Common.{◌≡◌, ℕ, suc, ◌<◌, List, [], ◌∷◌, length, Ok, Err, sym, ap, ◌∙◌, arith}
 use Rattle.std.proofs.lemmas.Bool.Decides.{nat_tests}
 use Rattle.syntax.specs.Cuts.{lines}
-use Rattle.assembler.specs.declared.records.LabelRecord.{LabelRecord}
-use Rattle.assembler.specs.declared.records.LineRecord.{LineRecord}
-use Rattle.assembler.specs.declared.records.Refusal.{Refusal}
-use Rattle.assembler.specs.declared.table.Table.{Table}
-use Rattle.assembler.specs.Tables.{filled, size, Spared}
-use Rattle.assembler.specs.Placing.{Room, Placing, Stopped, place_line, place, room, start, state_of, behind, came_to}
+use Rattle.assembler.specs.Tables.{filled, size}
+use Rattle.assembler.specs.Placing.{Room, Placing, Stopped, place_line, place, room, state_of, behind}
 use Rattle.assembler.proofs.Cutting.{no_lines}
 use Rattle.assembler.proofs.Laying.{place-refused, place-goes, spared_on}
 use Rattle.assembler.proofs.layout.place_lines.Goals as goal

@@ -15,12 +15,11 @@ loop-word-preserved c =
     let rest : drop i ws ≡ get_or ws i 0 ∷ drop (i + 1) ws = rw add-one (drop-cons ws i 0 inside) in
     let put = c.put_word.ensures.put in
     let counted = c.put_word.ensures.count in
-    let before = c.loop-word.invariant.1 in
-    (
+    let before = c.loop-word.invariant.1 in (
       ap (λ (l : List ℕ). l ++ word_bytes (drop (i + 1) ws)) put
-      ∙ append_assoc done (bytes_of (get_or ws i 0)) (word_bytes (drop (i + 1) ws))
-      ∙ ap (λ (l : List ℕ). done ++ word_bytes l) (sym rest)
-      ∙ c.loop-word.invariant.0,
+          ∙ append_assoc done (bytes_of (get_or ws i 0)) (word_bytes (drop (i + 1) ws))
+          ∙ ap (λ (l : List ℕ). done ++ word_bytes l) (sym rest)
+          ∙ c.loop-word.invariant.0,
       omega (arith, counted, before),
       spared_on c.args.out.now c.loop-word.out c.put_word.new.out c.loop-word.invariant.2 c.put_word.ensures.spared,
     )

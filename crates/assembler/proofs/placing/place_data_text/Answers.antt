@@ -1,4 +1,4 @@
-use Rattle.std.proofs.Common.{◌≡◌, Option, sym, ap, ◌∙◌, rules}
+use Rattle.std.proofs.Common.{Option, sym, ap, ◌∙◌}
 use Rattle.syntax.specs.Data.{Datum}
 use Rattle.assembler.specs.Tables.{filled, size}
 use Rattle.assembler.specs.Placing.{place_data, room, state_of}

@@ -1,6 +1,6 @@
 use Rattle.std.proofs.Common.{◌≡◌, length, Result, sym, ap, ◌∙◌}
 use Rattle.syntax.specs.declared.statements.LineFault.{LineFault}
-use Rattle.syntax.specs.Statements.{Statement, statement_of}
+use Rattle.syntax.specs.Statements.{Statement}
 use Rattle.assembler.specs.Tables.{filled, size}
 use Rattle.assembler.specs.Placing.{Placing, Room, place_statement, place_line, came_to, room, state_of}
 use Rattle.assembler.proofs.Bounds.{memory_bound}

@@ -1,4 +1,4 @@
-use Rattle.std.proofs.Common.{◌≡◌, ◌++◌, None, vec_items, sym, ap, ◌∙◌}
+use Rattle.std.proofs.Common.{◌≡◌, ◌++◌, None, vec_items, ap, ◌∙◌}
 use Rattle.word.specs.Words.{decoded}
 use Rattle.lister.specs.Reports.{is_listed_for, report_of}
 use Rattle.lister.proofs.reports.add_listed.Goals as goal

@@ -1,4 +1,4 @@
-use Rattle.std.proofs.Common.{◌≡◌, sym, refl, ap, ◌∙◌, rules}
+use Rattle.std.proofs.Common.{◌∙◌, rules}
 use Rattle.syntax.proofs.Caps.{step, stop, finish}
 use Rattle.syntax.proofs.numbers.digits_after.Goals as goal
 
