@@ -7,7 +7,7 @@ use Rattle.assembler.specs.declared.records.LabelRecord.{LabelRecord}
 use Rattle.assembler.specs.declared.records.LineRecord.{LineRecord}
 use Rattle.assembler.specs.declared.records.Refusal.{Refusal}
 use Rattle.assembler.specs.declared.records.Refusal.TheVariants.{TextTooLong, TooManyLines, NameUndefined, ImageTooLong}
-use Rattle.assembler.specs.Placing.{Room, Placing, Course, All, Stopped, start, place}
+use Rattle.assembler.specs.Placing.{Room, Placing, Course, Whole, Stopped, start, place}
 use Rattle.assembler.specs.Images.{address_in, first_undefined, image_of}
 
 -- A text is accepted with its image, or refused with the number of a line (0: none); both with the records made.
@@ -27,7 +27,7 @@ named most text s None = sized most s (image_of (address_in text s.labels) (line
 -- Have all lines passed?
 abbrev pub passed : ℕ → List ℕ → Course → Answer
 passed most text (Stopped s f) = refused f (s.number + 1) s.labels s.lines
-passed most text (All s) = named most text s (first_undefined text s.labels 1 (lines text))
+passed most text (Whole s) = named most text s (first_undefined text s.labels 1 (lines text))
 
 -- Has the text at most 2,048 lines?
 abbrev pub of_lines : Room → ℕ → List ℕ → Answer

@@ -4,7 +4,7 @@ use Rattle.std.specs.Str.{bytes_eq}
 use Rattle.syntax.specs.declared.statements.LineFault.{LineFault}
 use Rattle.syntax.specs.Data.{Datum, data_in, data_bytes}
 use Rattle.syntax.specs.Rows.{Row}
-use Rattle.syntax.specs.Statements.{Statement, empty, labelled, code, statement_in, number_of as lineNumber}
+use Rattle.syntax.specs.Statements.{Statement, empty, labelled, code, statement_in, number_of as line_number}
 use Rattle.assembler.specs.declared.records.LabelRecord.{LabelRecord}
 use Rattle.assembler.specs.declared.records.LineKind.{LineKind}
 use Rattle.assembler.specs.declared.records.LineKind.TheVariants.{Instruction, Data}
@@ -19,7 +19,7 @@ use Rattle.assembler.specs.Expansions.{word_count}
 abbrev pub number_of : Refusal → ℕ
 number_of TextTooLong = 1
 number_of TooManyLines = 2
-number_of (InLine f) = lineNumber f
+number_of (InLine f) = line_number f
 number_of LabelTwice = 6
 number_of NoLabelRecord = 7
 number_of BadData = 8
@@ -119,15 +119,15 @@ start = record { number = 0; place = 0; address = 0; labels = []; lines = [] }
 
 -- What placing the lines of a text comes to: all are placed; or one is refused, with what stood before it.
 pub data Course : Type 0 where
-  All : Placing → Course
+  Whole : Placing → Course
   Stopped : Placing → Refusal → Course
 
 -- The lines in order, up to the first that is refused.
 abbrev pub place : Room → List ℕ → Placing → List (List ℕ) → Course
-place free text s [] = All s
+place free text s [] = Whole s
 place free text s (l ∷ ls) = elim (place_line free text s l) [ Ok s' ↦ place free text s' ls | Err f ↦ Stopped s f ]
 
 -- What placing came to that was answered with where it came, or with where it stopped, and left these records.
 abbrev pub course_of : Result Position Stop → List LabelRecord → List LineRecord → Course
-course_of (Ok at) labels lines = All (state_of at labels lines)
+course_of (Ok at) labels lines = Whole (state_of at labels lines)
 course_of (Err stop) labels lines = Stopped (state_of stop.at labels lines) stop.refusal

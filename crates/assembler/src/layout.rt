@@ -1,6 +1,6 @@
 // Placing all lines of a text.
 ghost use Rattle.std.specs.Prelude.{◌≡◌, ◌+◌, ◌*◌, ◌<◌, ◌≤◌, length, MatchResult};
-ghost use Rattle.syntax.specs.Cuts.{lines as textLines};
+ghost use Rattle.syntax.specs.Cuts.{lines as text_lines};
 ghost use Rattle.assembler.specs.Tables.{filled, size, Spared};
 ghost use Rattle.assembler.specs.Placing.{room, start, place, course_of};
 
@@ -32,8 +32,8 @@ pub fn place_lines(
     lines: &mut Table<LineRecord>,
 ) -> Result<Position, Stop>
     requires empty { (labels.old.count ≡ 0) × (lines.old.count ≡ 0) }
-    requires short { (length text.now ≤ 32768) × (length (textLines text.now) ≤ 2048) }
-    ensures comes { place (room (size labels.old) (size lines.old)) text.now start (textLines text.now) ≡ course_of result (filled labels.new) (filled lines.new) }
+    requires short { (length text.now ≤ 32768) × (length (text_lines text.now) ≤ 2048) }
+    ensures comes { place (room (size labels.old) (size lines.old)) text.now start (text_lines text.now) ≡ course_of result (filled labels.new) (filled lines.new) }
     ensures spared { (Spared labels.old labels.new) × (Spared lines.old lines.new) }
 {
     let mut at = Position {

@@ -1,6 +1,6 @@
 -- What a bus means, apart from how it is built.
 use Rattle.std.specs.Prelude.{◌≡◌, ℕ, ◌+◌, ◌%◌, ◌<◌, ◌≤◌, List}
-use Rattle.std.specs.List.{AllByRecursion as All}
+use Rattle.std.specs.List.{AllByRecursion}
 use Rattle.bus.specs.Sizes.{byte_values, word_bytes, addresses}
 
 -- What stands at an address: a cell or a fixed cell with its byte, one of three ports, or nothing.
@@ -49,7 +49,7 @@ HoldsByte Nothing = Unit {0}
 
 -- Each number of a list is below 256.
 abbrev pub AllBytes : List ℕ → Type 0
-AllBytes bs = All (λ b. b < byte_values) bs
+AllBytes bs = AllByRecursion (λ b. b < byte_values) bs
 
 -- What every bus shows of its meaning: an even address and the next are of one kind, nothing stands from 65,536 up, and every byte is below 256.
 pub record Facts (m : Meaning) : Type 0 where

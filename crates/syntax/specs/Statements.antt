@@ -19,7 +19,7 @@ use Rattle.syntax.specs.Names.{is_name}
 use Rattle.syntax.specs.Numbers.{number}
 use Rattle.syntax.specs.Mnemonics.{mnemonic_in}
 use Rattle.syntax.specs.Operands.{Operands, operands_by, said_all}
-use Rattle.syntax.specs.Rows.{Row, row_of, judged, said_row, number_of as instructionNumber}
+use Rattle.syntax.specs.Rows.{Row, row_of, judged, said_row, number_of as instruction_number}
 
 -- Has a line at most 120 bytes, all of them tabs or from space to tilde?
 abbrev pub is_plain : ℕ → Bool
@@ -46,7 +46,7 @@ abbrev pub number_of : LineFault → ℕ
 number_of BadCharacters = 3
 number_of Indented = 4
 number_of BadLabel = 5
-number_of (BadInstruction f) = instructionNumber f
+number_of (BadInstruction f) = instruction_number f
 
 -- Is all before the first space or tab a name?
 abbrev pub label_in : List ℕ → Result Line LineFault

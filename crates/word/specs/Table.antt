@@ -1,6 +1,6 @@
 -- The table of mnemonics.
 use Rattle.std.specs.Prelude.{◌≡◌, ℕ, Bool, true, false, cond, ◌&&◌, List, [], ◌∷◌, map, Some, None, codes, Option, ◌==◌}
-use Rattle.std.specs.List.{AllByRecursion as All}
+use Rattle.std.specs.List.{AllByRecursion}
 use Rattle.std.specs.Str.{bytes_eq}
 use Rattle.word.specs.declared.instructions.Computation.TheVariants.{And, Or, Xor, Slt, Sltu, Add, Sub}
 use Rattle.word.specs.declared.instructions.Shift.TheVariants.{Lsr, Asr}
@@ -126,8 +126,8 @@ named n = first (is_named n) entries
 
 -- No mnemonic stands twice.
 abbrev pub NamesStand : Type 0
-NamesStand = All (λ x. named (row x).name ≡ Some x) operations
+NamesStand = AllByRecursion (λ x. named (row x).name ≡ Some x) operations
 
 -- No opcode stands twice with one op2.
 abbrev pub CodesStand : Type 0
-CodesStand = All (λ x. coded (row x).opcode (row x).op2 ≡ Some x) operations
+CodesStand = AllByRecursion (λ x. coded (row x).opcode (row x).op2 ≡ Some x) operations
