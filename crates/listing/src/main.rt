@@ -1,10 +1,10 @@
 // Words from standard input, four hexadecimal digits a line, as the lines that assemble to them.
 #![tactic(auto)]
 
-use anyhow::anyhow;
 use lister::report;
 use std::alloc::{AllocError, Global};
 use std::io::{Read, Write};
+use std::process::ExitCode;
 
 // One byte more than a word has digits: enough to see that a line is too long.
 const KEPT: usize = 5;
@@ -88,10 +88,11 @@ fn transcribe(rt: &HostRuntime) -> anyhow::Result<bool> {
     Ok(transcript.all_listed)
 }
 
-fn main(rt: HostRuntime) -> anyhow::Result<()> {
-    if transcribe(&rt)? {
-        Ok(())
+fn main(rt: HostRuntime) -> anyhow::Result<ExitCode> {
+    let all_listed = transcribe(&rt)?;
+    Ok(if all_listed {
+        ExitCode::SUCCESS
     } else {
-        Err(anyhow!("a line named no valid word"))
-    }
+        ExitCode::FAILURE
+    })
 }

@@ -71,8 +71,3 @@ capped-number (c ∷ cs) =
       | true ↦ capped-signed true (magnitude cs)
       | false ↦ capped-signed false (magnitude (c ∷ cs))
     ]
-
-pub number_other : (t cs : List ℕ) (c : ℕ) → t ≡ c ∷ cs → (c ≡ 45 → ⊥) → option_map (signed false) (capped (magnitude t)) ≡ capped_number t
-number_other t cs c e other =
-    let M : List ℕ → Type 0 = λ t. option_map (signed false) (capped (magnitude t)) ≡ capped_number t in
-    subst⁻¹ M e (sym (cond-false _ _ _ (ne_eqb c 45 other)))
