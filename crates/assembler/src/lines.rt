@@ -1,11 +1,14 @@
 // The lines of a text, one after the other.
-ghost use Rattle.std.specs.Prelude.{◌≡◌, ◌+◌, ◌<◌, ◌≤◌, ◌∷◌, length};
-ghost use Rattle.syntax.specs.Cuts.{lines};
+ghost use Rattle.std.specs.Prelude.{◌≡◌, ◌+◌, ◌<◌, ◌≤◌, [], ◌∷◌, length, unwrap_or};
+ghost use Rattle.syntax.specs.declared.cuts.Separator.TheVariants.{LineFeed};
+ghost use Rattle.syntax.specs.Cuts.{lines, before, behind};
 
 use syntax::{Separator, cut};
 
 /// The first line of a text that is not empty, and what stands behind it.
 pub fn next_line(text: &[u8]) -> (&[u8], &[u8])
+    ensures line { result.0.now ≡ before LineFeed text.now }
+    ensures rest { result.1.now ≡ unwrap_or (behind LineFeed text.now) [] }
     ensures first { 0 < length text.now → lines text.now ≡ result.0.now ∷ lines result.1.now }
     ensures shorter { 0 < length text.now → length result.1.now < length text.now }
     ensures parts { length result.0.now + length result.1.now ≤ length text.now }

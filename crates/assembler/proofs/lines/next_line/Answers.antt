@@ -1,4 +1,4 @@
-use Rattle.std.proofs.Common.{◌≡◌, ℕ, List, [], ◌∷◌, length, Some, None, sym, ap, ◌∙◌, arith}
+use Rattle.std.proofs.Common.{◌≡◌, ℕ, List, [], ◌∷◌, length, unwrap_or, Some, None, Option, sym, ap, ◌∙◌, arith}
 use Rattle.std.specs.Option.{option_map}
 use Rattle.syntax.specs.declared.cuts.Separator.TheVariants.{LineFeed}
 use Rattle.syntax.specs.Cuts.{lines, before, behind}
@@ -12,6 +12,8 @@ returns-in-Some c =
     let l : length c.cut.result.0.now ≡ length (before LineFeed c.args.text.now) = ap length b in
     let k = cut-length LineFeed c.args.text.now c.in-Some.rest.now e in
     record {
+      line = b;
+      rest = ap (λ (o : Option (List ℕ)). unwrap_or o []) (sym e);
       first = λ h. some_line c.args.text.now c.in-Some.rest.now h e ∙ ap (λ (l : List ℕ). l ∷ lines c.in-Some.rest.now) (sym b);
       shorter = λ h. omega arith;
       parts = omega arith;
@@ -25,6 +27,8 @@ returns-in-None c =
     let l : length c.cut.result.0.now ≡ length (before LineFeed c.args.text.now) = ap length b in
     let k = whole_length LineFeed c.args.text.now in
     record {
+      line = b;
+      rest = ap (λ (o : Option (List ℕ)). unwrap_or o []) (sym e);
       first = λ h. last_line c.args.text.now h e ∙ ap (λ (l : List ℕ). l ∷ []) (sym b);
       shorter = λ h. h;
       parts = omega arith;
