@@ -90,14 +90,14 @@ impl Line {
         }
     }
 
-    fn push_immediate(&mut self, extension: Extension, n: u8)
+    fn push_immediate(&mut self, extension: Option<Extension>, n: u8)
         requires { self.old.len + 4 ≤ 16 }
         ensures text { held self.new ≡ held self.old ++ immediate_text extension n }
         ensures size { self.new.len ≤ self.old.len + 4 }
     {
         match extension {
-            Extension::Absent | Extension::ZeroExtended => self.push_decimal(n),
-            Extension::SignExtended => self.push_signed(n),
+            None | Some(Extension::ZeroExtended) => self.push_decimal(n),
+            Some(Extension::SignExtended) => self.push_signed(n),
         }
     }
 
@@ -126,7 +126,7 @@ impl Line {
         ensures size { self.new.len ≤ self.old.len + 9 }
     {
         match operation.mnemonic().shape {
-            Shape::NoOperands => {}
+            Some(Shape::NoOperands) => {}
             _ => {
                 self.push(b' ');
                 self.push_three(a, b, c);

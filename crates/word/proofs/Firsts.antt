@@ -1,20 +1,25 @@
 -- A search through the table for the first row that passes.
-use Rattle.std.proofs.Common.{◌≡◌, ℕ, ◌+◌, ◌<◌, ◌≤◌, Bool, true, false, List, map, length, get_or, drop, Some, None, Option, ◌∙◌}
-use Rattle.std.proofs.lemmas.List.{at_drop_more, at_drop_all}
-use Rattle.std.proofs.lemmas.Bool.{cond-true, cond-false}
+use Rattle.std.proofs.Common.{◌≡◌, Bool, true, false, cond, List, [], ◌∷◌, map, find, Some, Option, option_map, refl, ap, ◌∙◌}
 use Rattle.word.specs.declared.instructions.Operation.{Operation}
 use Rattle.word.specs.declared.table.Mnemonic.{Mnemonic}
-use Rattle.word.specs.Table.{Row, row_in, entry_in, first}
+use Rattle.word.specs.Table.{Row, row_in, entry_in, entries, first}
 
-abbrev from : (Row → Bool) → List Mnemonic → Option Operation
-from p xs = first p (map entry_in xs)
+abbrev pub operation_in : Option Mnemonic → Option Operation
+operation_in o = option_map (λ (m : Mnemonic). m.operation) o
 
-module _ (p : Row → Bool) (xs : List Mnemonic) (i : ℕ) (d : Mnemonic) where
-  pub first_yes : i < length xs → p (row_in (get_or xs i d)) ≡ true → from p (drop i xs) ≡ Some (get_or xs i d).operation
-  first_yes h e = at_drop_more (from p) xs i d h ∙ cond-true _ _ _ e
+abbrev pub find_in : (Row → Bool) → List Mnemonic → Option Mnemonic
+find_in p xs = find (λ (m : Mnemonic). p (row_in m)) xs
 
-  pub first_no : i < length xs → p (row_in (get_or xs i d)) ≡ false → from p (drop i xs) ≡ from p (drop (i + 1) xs)
-  first_no h e = at_drop_more (from p) xs i d h ∙ cond-false _ _ _ e
+first_in : (p : Row → Bool) (xs : List Mnemonic) → operation_in (find_in p xs) ≡ first p (map entry_in xs)
+first_in p [] = refl
+first_in p (x ∷ xs) = by (p (row_in x)) (first_in p xs)
+  where
+    by : (b : Bool) → operation_in (find_in p xs) ≡ first p (map entry_in xs)
+        → operation_in (cond b (Some x) (find_in p xs)) ≡ cond b (Some x.operation) (first p (map entry_in xs))
+    by true e = refl
+    by false e = e
 
-pub first-end : (p : Row → Bool) (xs : List Mnemonic) (i : ℕ) → length xs ≤ i → from p (drop i xs) ≡ None
-first-end p xs i h = at_drop_all (from p) xs i h
+-- the operation of the first element of the program's table that passes
+pub first_found : (p : Row → Bool) (table : List Mnemonic) (m : Option Mnemonic) (r : Option Operation)
+    → map entry_in table ≡ entries → m ≡ find_in p table → r ≡ operation_in m → r ≡ first p entries
+first_found p table m r rows found is = is ∙ ap operation_in found ∙ first_in p table ∙ ap (first p) rows

@@ -1,5 +1,5 @@
 -- What the table's searches find.
-use Rattle.std.proofs.Common.{◌≡◌, ℕ, ◌<◌, Bool, true, false, cond, ◌&&◌, eqb, List, [], ◌∷◌, map, Some, sym, refl, ap, ◌∙◌, arith, lit<}
+use Rattle.std.proofs.Common.{◌≡◌, ℕ, ◌<◌, Bool, true, false, cond, ◌&&◌, eqb, List, [], ◌∷◌, map, is_some, Some, None, Option, sym, refl, ap, ◌∙◌, arith, lit<}
 use Rattle.std.proofs.lemmas.Bool.Decides.{nat_tests}
 use Rattle.word.specs.declared.instructions.Computation.{Computation}
 use Rattle.word.specs.declared.instructions.Computation.TheVariants.{And, Or, Xor, Slt, Sltu, Add, Sub}
@@ -10,8 +10,8 @@ use Rattle.word.specs.declared.instructions.Condition.TheVariants.{Zero, NotZero
 use Rattle.word.specs.declared.instructions.Operation.{Operation}
 use Rattle.word.specs.declared.instructions.Operation.TheVariants.{Computes, Shifts, Loads, Stores, Branches, LoadsRegister, LoadsConstant, Halts}
 use Rattle.word.specs.declared.table.Shape.{Shape}
-use Rattle.word.specs.declared.table.Shape.TheVariants.{ThreeRegisters, LastZero, MiddleZero, FirstZero, NoOperands, NumberOnly}
-use Rattle.word.specs.Table.{Row, row, entry, operations, first, is_coded, coded, takes_immediate, is_immediately_coded, immediately_coded}
+use Rattle.word.specs.declared.table.Shape.TheVariants.{ThreeRegisters, LastZero, MiddleZero, FirstZero, NoOperands}
+use Rattle.word.specs.Table.{Row, row, entry, operations, first, is_coded, coded, is_immediately_coded, immediately_coded}
 
 pub both : (a b : Bool) → (a && b) ≡ true → (a ≡ true) × (b ≡ true)
 both true b e = (refl, e)
@@ -34,7 +34,7 @@ codes_of o p x e =
 
 pub opcode_of : (o : ℕ) (x : Operation) → immediately_coded o ≡ Some x → (row x).opcode ≡ o
 opcode_of o x e =
-    let t = both (eqb (row x).opcode o) (takes_immediate (row x).immediate) (first_passes (is_immediately_coded o) operations x e) in
+    let t = both (eqb (row x).opcode o) (is_some (row x).immediate) (first_passes (is_immediately_coded o) operations x e) in
     grind (arith, nat_tests)
 
 -- each row is found by its codes, which fit their fields
@@ -64,15 +64,15 @@ placed LoadsConstant = record { found = refl; opcode-fits = lit< tt; op2-fits = 
 placed Halts = record { found = refl; opcode-fits = lit< tt; op2-fits = lit< tt }
 
 -- the shape that an operation's rows share
-abbrev pub shape_of : Operation → Shape
-shape_of (Computes c) = ThreeRegisters
-shape_of (Shifts s) = LastZero
-shape_of (Loads w) = MiddleZero
-shape_of (Stores w) = FirstZero
-shape_of (Branches c) = FirstZero
-shape_of LoadsRegister = NumberOnly
-shape_of LoadsConstant = NumberOnly
-shape_of Halts = NoOperands
+abbrev pub shape_of : Operation → Option Shape
+shape_of (Computes c) = Some ThreeRegisters
+shape_of (Shifts s) = Some LastZero
+shape_of (Loads w) = Some MiddleZero
+shape_of (Stores w) = Some FirstZero
+shape_of (Branches c) = Some FirstZero
+shape_of LoadsRegister = None
+shape_of LoadsConstant = None
+shape_of Halts = Some NoOperands
 
 pub shaped : (x : Operation) → (row x).shape ≡ shape_of x
 shaped (Computes And) = refl

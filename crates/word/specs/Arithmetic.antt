@@ -1,5 +1,5 @@
 -- The arithmetic of the words. A value is a number below 65,536, a byte one below 256.
-use Rattle.std.specs.Prelude.{ℕ, ◌+◌, ◌-◌, ◌*◌, ◌/◌, ◌%◌, Bool, true, false, cond, not, ℤ, pos, negsuc, ◌==◌, bit_and, bit_or, bit_xor, int_lt, nat_lt}
+use Rattle.std.specs.Prelude.{ℕ, ◌+◌, ◌-◌, ◌*◌, ◌/◌, ◌%◌, Bool, true, false, cond, not, ℤ, pos, negsuc, Some, None, Option, ◌==◌, bit_and, bit_or, bit_xor, int_lt, nat_lt}
 use Rattle.word.specs.declared.instructions.Computation.{Computation}
 use Rattle.word.specs.declared.instructions.Computation.TheVariants.{And, Or, Xor, Slt, Sltu, Add, Sub}
 use Rattle.word.specs.declared.instructions.Shift.{Shift}
@@ -7,7 +7,7 @@ use Rattle.word.specs.declared.instructions.Shift.TheVariants.{Lsr, Asr}
 use Rattle.word.specs.declared.instructions.Condition.{Condition}
 use Rattle.word.specs.declared.instructions.Condition.TheVariants.{Zero, NotZero}
 use Rattle.word.specs.declared.table.Extension.{Extension}
-use Rattle.word.specs.declared.table.Extension.TheVariants.{Absent, ZeroExtended, SignExtended}
+use Rattle.word.specs.declared.table.Extension.TheVariants.{ZeroExtended, SignExtended}
 
 -- A byte with zeros above it.
 abbrev pub zero_extend : ℕ → ℕ
@@ -18,10 +18,10 @@ abbrev pub sign_extend : ℕ → ℕ
 sign_extend n = cond (nat_lt n 128) n (0xFF00 + n)
 
 -- The value B of an immediate; a mnemonic that takes none has none, written 0.
-abbrev pub extend : Extension → ℕ → ℕ
-extend Absent n = 0
-extend ZeroExtended n = zero_extend n
-extend SignExtended n = sign_extend n
+abbrev pub extend : Option Extension → ℕ → ℕ
+extend None n = 0
+extend (Some ZeroExtended) n = zero_extend n
+extend (Some SignExtended) n = sign_extend n
 
 -- The signed number that a value stands for, −32,768 to 32,767: bit 15 counts −32,768. (negsuc m is −1 − m.)
 abbrev pub signed : ℕ → ℤ

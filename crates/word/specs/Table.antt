@@ -1,5 +1,5 @@
 -- The table of mnemonics.
-use Rattle.std.specs.Prelude.{◌≡◌, ℕ, Bool, true, false, cond, ◌&&◌, List, [], ◌∷◌, map, Some, None, codes, Option, ◌==◌}
+use Rattle.std.specs.Prelude.{◌≡◌, ℕ, Bool, cond, ◌&&◌, List, [], ◌∷◌, map, is_some, Some, None, codes, Option, ◌==◌}
 use Rattle.std.specs.List.{AllByRecursion}
 use Rattle.std.specs.Str.{bytes_eq}
 use Rattle.word.specs.declared.instructions.Computation.TheVariants.{And, Or, Xor, Slt, Sltu, Add, Sub}
@@ -9,43 +9,43 @@ use Rattle.word.specs.declared.instructions.Condition.TheVariants.{Zero, NotZero
 use Rattle.word.specs.declared.instructions.Operation.{Operation}
 use Rattle.word.specs.declared.instructions.Operation.TheVariants.{Computes, Shifts, Loads, Stores, Branches, LoadsRegister, LoadsConstant, Halts}
 use Rattle.word.specs.declared.table.Shape.{Shape}
-use Rattle.word.specs.declared.table.Shape.TheVariants.{ThreeRegisters, LastZero, MiddleZero, FirstZero, NoOperands, NumberOnly}
+use Rattle.word.specs.declared.table.Shape.TheVariants.{ThreeRegisters, LastZero, MiddleZero, FirstZero, NoOperands}
 use Rattle.word.specs.declared.table.Extension.{Extension}
-use Rattle.word.specs.declared.table.Extension.TheVariants.{Absent, ZeroExtended, SignExtended}
+use Rattle.word.specs.declared.table.Extension.TheVariants.{ZeroExtended, SignExtended}
 use Rattle.word.specs.declared.table.Mnemonic.{Mnemonic}
 
 -- A row: the mnemonic's text, its opcode, its op2 where Imm is 0, which register fields are free there, and how an
--- immediate is extended where Imm is 1.
+-- immediate is extended where Imm is 1; a mnemonic that has no words with that Imm has none of the two.
 pub record Row : Type 0 where
   pub name : List ℕ
   pub opcode : ℕ
   pub op2 : ℕ
-  pub shape : Shape
-  pub immediate : Extension
+  pub shape : Option Shape
+  pub immediate : Option Extension
 
-abbrev pub line : List ℕ → ℕ → ℕ → Shape → Extension → Row
+abbrev pub line : List ℕ → ℕ → ℕ → Option Shape → Option Extension → Row
 line n o p s e = record { name = n; opcode = o; op2 = p; shape = s; immediate = e }
 
 -- The table: the row of each operation.
 abbrev pub row : Operation → Row
-row (Computes And) = line (codes "and") 0 0 ThreeRegisters ZeroExtended
-row (Computes Or) = line (codes "or") 1 0 ThreeRegisters ZeroExtended
-row (Computes Xor) = line (codes "xor") 2 0 ThreeRegisters SignExtended
-row (Computes Slt) = line (codes "slt") 3 0 ThreeRegisters SignExtended
-row (Computes Sltu) = line (codes "sltu") 4 0 ThreeRegisters SignExtended
-row (Computes Add) = line (codes "add") 5 0 ThreeRegisters SignExtended
-row (Computes Sub) = line (codes "sub") 6 0 ThreeRegisters SignExtended
-row (Shifts Lsr) = line (codes "lsr") 0 1 LastZero Absent
-row (Shifts Asr) = line (codes "asr") 1 1 LastZero Absent
-row (Loads Byte) = line (codes "ldb") 0 2 MiddleZero Absent
-row (Loads Word) = line (codes "ldw") 4 2 MiddleZero Absent
-row (Stores Byte) = line (codes "stb") 1 2 FirstZero Absent
-row (Stores Word) = line (codes "stw") 5 2 FirstZero Absent
-row (Branches Zero) = line (codes "bez") 10 3 FirstZero SignExtended
-row (Branches NotZero) = line (codes "bnz") 11 3 FirstZero SignExtended
-row LoadsRegister = line (codes "ldr") 8 0 NumberOnly SignExtended
-row LoadsConstant = line (codes "ldc") 9 0 NumberOnly ZeroExtended
-row Halts = line (codes "hcf") 0 3 NoOperands Absent
+row (Computes And) = line (codes "and") 0 0 (Some ThreeRegisters) (Some ZeroExtended)
+row (Computes Or) = line (codes "or") 1 0 (Some ThreeRegisters) (Some ZeroExtended)
+row (Computes Xor) = line (codes "xor") 2 0 (Some ThreeRegisters) (Some SignExtended)
+row (Computes Slt) = line (codes "slt") 3 0 (Some ThreeRegisters) (Some SignExtended)
+row (Computes Sltu) = line (codes "sltu") 4 0 (Some ThreeRegisters) (Some SignExtended)
+row (Computes Add) = line (codes "add") 5 0 (Some ThreeRegisters) (Some SignExtended)
+row (Computes Sub) = line (codes "sub") 6 0 (Some ThreeRegisters) (Some SignExtended)
+row (Shifts Lsr) = line (codes "lsr") 0 1 (Some LastZero) None
+row (Shifts Asr) = line (codes "asr") 1 1 (Some LastZero) None
+row (Loads Byte) = line (codes "ldb") 0 2 (Some MiddleZero) None
+row (Loads Word) = line (codes "ldw") 4 2 (Some MiddleZero) None
+row (Stores Byte) = line (codes "stb") 1 2 (Some FirstZero) None
+row (Stores Word) = line (codes "stw") 5 2 (Some FirstZero) None
+row (Branches Zero) = line (codes "bez") 10 3 (Some FirstZero) (Some SignExtended)
+row (Branches NotZero) = line (codes "bnz") 11 3 (Some FirstZero) (Some SignExtended)
+row LoadsRegister = line (codes "ldr") 8 0 None (Some SignExtended)
+row LoadsConstant = line (codes "ldc") 9 0 None (Some ZeroExtended)
+row Halts = line (codes "hcf") 0 3 (Some NoOperands) None
 
 -- The operations in the order of the table.
 abbrev pub operations : List Operation
@@ -106,13 +106,8 @@ abbrev pub coded : ℕ → ℕ → Option Operation
 coded o p = first (is_coded o p) entries
 
 -- The operation with this opcode that takes an immediate.
-abbrev pub takes_immediate : Extension → Bool
-takes_immediate Absent = false
-takes_immediate ZeroExtended = true
-takes_immediate SignExtended = true
-
 abbrev pub is_immediately_coded : ℕ → Row → Bool
-is_immediately_coded o r = r.opcode == o && takes_immediate r.immediate
+is_immediately_coded o r = r.opcode == o && is_some r.immediate
 
 abbrev pub immediately_coded : ℕ → Option Operation
 immediately_coded o = first (is_immediately_coded o) entries

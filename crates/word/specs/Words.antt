@@ -8,7 +8,7 @@ use Rattle.word.specs.declared.instructions.Instruction.TheVariants.{Compute, Co
 use Rattle.word.specs.declared.instructions.Fields.{Fields}
 use Rattle.word.specs.declared.instructions.Fields.TheVariants.{Registers, Immediate}
 use Rattle.word.specs.declared.table.Shape.{Shape}
-use Rattle.word.specs.declared.table.Shape.TheVariants.{ThreeRegisters, LastZero, MiddleZero, FirstZero, NoOperands, NumberOnly}
+use Rattle.word.specs.declared.table.Shape.TheVariants.{ThreeRegisters, LastZero, MiddleZero, FirstZero, NoOperands}
 use Rattle.word.specs.Registers.{register}
 use Rattle.word.specs.Table.{row, coded, immediately_coded}
 
@@ -41,17 +41,17 @@ packed (Immediate x rst n) = immediate_word (row x).opcode rst n
 abbrev pub encoded : Instruction → ℕ
 encoded i = packed (fields i)
 
--- The register fields that must be 0 are.
+-- The register fields that must be 0 are; never where a mnemonic has no words with register fields.
 abbrev pub is_zero : Register → Bool
 is_zero r = r.number == 0
 
-abbrev pub keeps_zero : Shape → Register → Register → Register → Bool
-keeps_zero ThreeRegisters rst rsa rsb = true
-keeps_zero LastZero rst rsa rsb = is_zero rsb
-keeps_zero MiddleZero rst rsa rsb = is_zero rsa
-keeps_zero FirstZero rst rsa rsb = is_zero rst
-keeps_zero NoOperands rst rsa rsb = is_zero rst && (is_zero rsa && is_zero rsb)
-keeps_zero NumberOnly rst rsa rsb = false
+abbrev pub keeps_zero : Option Shape → Register → Register → Register → Bool
+keeps_zero (Some ThreeRegisters) rst rsa rsb = true
+keeps_zero (Some LastZero) rst rsa rsb = is_zero rsb
+keeps_zero (Some MiddleZero) rst rsa rsb = is_zero rsa
+keeps_zero (Some FirstZero) rst rsa rsb = is_zero rst
+keeps_zero (Some NoOperands) rst rsa rsb = is_zero rst && (is_zero rsa && is_zero rsb)
+keeps_zero None rst rsa rsb = false
 
 -- The instruction of an operation with these registers.
 abbrev pub with_registers : Operation → Register → Register → Register → Option Instruction

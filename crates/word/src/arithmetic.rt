@@ -24,13 +24,13 @@ pub fn sign_extend(byte: u8) -> u16
 }
 
 /// The value of an immediate; 0 where there is none.
-pub fn extend(extension: Extension, byte: u8) -> u16
+pub fn extend(extension: Option<Extension>, byte: u8) -> u16
     ensures { result ≡ extend extension byte }
 {
     match extension {
-        Extension::Absent => 0,
-        Extension::ZeroExtended => zero_extend(byte),
-        Extension::SignExtended => sign_extend(byte),
+        None => 0,
+        Some(Extension::ZeroExtended) => zero_extend(byte),
+        Some(Extension::SignExtended) => sign_extend(byte),
     }
 }
 

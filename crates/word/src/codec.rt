@@ -134,18 +134,18 @@ fn register_word(opcode: u8, rst: Register, rsa: Register, rsb: Register, op2: u
     requires { (opcode < 16) × (op2 < 4) }
     ensures { result ≡ register_word opcode rst rsa rsb op2 }
 {
-    let rst = rst.number() as u16;
-    let rsa = rsa.number() as u16;
-    let rsb = rsb.number() as u16;
-    (opcode as u16) << 12 | rst << 8 | rsa << 5 | rsb << 2 | op2 as u16
+    let rst = u16::from(rst.number());
+    let rsa = u16::from(rsa.number());
+    let rsb = u16::from(rsb.number());
+    u16::from(opcode) << 12 | rst << 8 | rsa << 5 | rsb << 2 | u16::from(op2)
 }
 
 fn immediate_word(opcode: u8, rst: Register, immediate: u8) -> u16
     requires { opcode < 16 }
     ensures { result ≡ immediate_word opcode rst immediate }
 {
-    let rst = rst.number() as u16;
-    (opcode as u16) << 12 | 1 << 11 | rst << 8 | immediate as u16
+    let rst = u16::from(rst.number());
+    u16::from(opcode) << 12 | 1 << 11 | rst << 8 | u16::from(immediate)
 }
 
 /// The word of an instruction.
@@ -177,7 +177,7 @@ pub fn encode(instruction: Instruction) -> u16
 impl Shape {
     /// Whether the register fields that must be 0 are.
     pub fn keeps_zero(self, rst: Register, rsa: Register, rsb: Register) -> bool
-        ensures { result ≡ keeps_zero self rst rsa rsb }
+        ensures { result ≡ keeps_zero (Some self) rst rsa rsb }
     {
         match self {
             Shape::ThreeRegisters => true,
@@ -185,7 +185,6 @@ impl Shape {
             Shape::MiddleZero => rsa.number() == 0,
             Shape::FirstZero => rst.number() == 0,
             Shape::NoOperands => rst.number() == 0 && rsa.number() == 0 && rsb.number() == 0,
-            Shape::NumberOnly => false,
         }
     }
 }
@@ -266,10 +265,12 @@ fn decode_registers(
     ensures { result ≡ of_registers (coded opcode op2) rst rsa rsb }
 {
     let operation = Operation::coded(opcode, op2)?;
-    if !operation.mnemonic().shape.keeps_zero(rst, rsa, rsb) {
-        return None;
+    let shape = operation.mnemonic().shape?;
+    if shape.keeps_zero(rst, rsa, rsb) {
+        operation.with_registers(rst, rsa, rsb)
+    } else {
+        None
     }
-    operation.with_registers(rst, rsa, rsb)
 }
 
 fn decode_immediate(opcode: u8, rst: Register, immediate: u8) -> Option<Instruction>

@@ -2,7 +2,7 @@
 use crate::registers::Register;
 
 /// What a computing word works out of its values A and B.
-#[derive(Clone, Copy)]
+#[derive(Clone, Copy, PartialEq, Eq, Debug)]
 pub enum Computation {
     And,
     Or,
@@ -16,7 +16,7 @@ pub enum Computation {
 }
 
 /// A shift right by one place.
-#[derive(Clone, Copy)]
+#[derive(Clone, Copy, PartialEq, Eq, Debug)]
 pub enum Shift {
     /// A zero comes in at bit 15.
     Lsr,
@@ -25,21 +25,21 @@ pub enum Shift {
 }
 
 /// How much a load or a store moves.
-#[derive(Clone, Copy)]
+#[derive(Clone, Copy, PartialEq, Eq, Debug)]
 pub enum Width {
     Byte,
     Word,
 }
 
 /// When a branch is taken.
-#[derive(Clone, Copy)]
+#[derive(Clone, Copy, PartialEq, Eq, Debug)]
 pub enum Condition {
     Zero,
     NotZero,
 }
 
 /// What a mnemonic stands for.
-#[derive(Clone, Copy)]
+#[derive(Clone, Copy, PartialEq, Eq, Debug)]
 pub enum Operation {
     Computes(Computation),
     Shifts(Shift),
@@ -55,7 +55,7 @@ pub enum Operation {
 }
 
 /// The instruction of a valid word. An immediate is the word's low byte as it stands there.
-#[derive(Clone, Copy)]
+#[derive(Clone, Copy, PartialEq, Eq, Debug)]
 pub enum Instruction {
     Compute {
         computation: Computation,
@@ -105,7 +105,7 @@ pub enum Instruction {
 }
 
 /// An instruction's operands in the order of the word's fields.
-#[derive(Clone, Copy)]
+#[derive(Clone, Copy, PartialEq, Eq, Debug)]
 pub enum Fields {
     /// Imm is 0: Rst, RsA and RsB.
     Registers {

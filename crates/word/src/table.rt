@@ -1,11 +1,11 @@
 // The one table of mnemonics. Encoding, decoding, listing and assembling read it.
 ghost use Rattle.std.specs.Prelude.{◌≡◌, ◌<◌, map, length};
-ghost use Rattle.word.specs.Table.{row, row_in, entry_in, entries, position, first, is_coded, coded, takes_immediate, is_immediately_coded, immediately_coded, is_named, named, NamesStand, CodesStand};
+ghost use Rattle.word.specs.Table.{row, row_in, entry_in, entries, position, is_coded, coded, is_immediately_coded, immediately_coded, is_named, named, NamesStand, CodesStand};
 
 use crate::instructions::{Computation, Condition, Operation, Shift, Width};
 
 /// Which operands stand in the register fields.
-#[derive(Clone, Copy)]
+#[derive(Clone, Copy, PartialEq, Eq, Debug)]
 pub enum Shape {
     /// Rst, RsA and RsB are free.
     ThreeRegisters,
@@ -17,51 +17,49 @@ pub enum Shape {
     FirstZero,
     /// All three are 0.
     NoOperands,
-    /// The mnemonic has no form with register fields.
-    NumberOnly,
 }
 
 /// How the low byte of a word with Imm 1 becomes the value B.
-#[derive(Clone, Copy)]
+#[derive(Clone, Copy, PartialEq, Eq, Debug)]
 pub enum Extension {
-    /// The mnemonic has no form with an immediate.
-    Absent,
     ZeroExtended,
     SignExtended,
 }
 
 /// A row of the table.
-#[derive(Clone, Copy)]
+#[derive(Clone, Copy, PartialEq, Eq, Debug)]
 pub struct Mnemonic {
     pub name: &'static str,
     pub opcode: u8,
     pub op2: u8,
-    pub shape: Shape,
-    pub immediate: Extension,
+    /// `None` where the mnemonic has no form with register fields.
+    pub shape: Option<Shape>,
+    /// `None` where it has no form with an immediate.
+    pub immediate: Option<Extension>,
     pub operation: Operation,
 }
 
 // One row a line, so that it reads as a table.
 #[rattlefmt::skip]
 const MNEMONICS: [Mnemonic; 18] = [
-    Mnemonic { name: "and", opcode: 0, op2: 0, shape: Shape::ThreeRegisters, immediate: Extension::ZeroExtended, operation: Operation::Computes(Computation::And) },
-    Mnemonic { name: "or", opcode: 1, op2: 0, shape: Shape::ThreeRegisters, immediate: Extension::ZeroExtended, operation: Operation::Computes(Computation::Or) },
-    Mnemonic { name: "xor", opcode: 2, op2: 0, shape: Shape::ThreeRegisters, immediate: Extension::SignExtended, operation: Operation::Computes(Computation::Xor) },
-    Mnemonic { name: "slt", opcode: 3, op2: 0, shape: Shape::ThreeRegisters, immediate: Extension::SignExtended, operation: Operation::Computes(Computation::Slt) },
-    Mnemonic { name: "sltu", opcode: 4, op2: 0, shape: Shape::ThreeRegisters, immediate: Extension::SignExtended, operation: Operation::Computes(Computation::Sltu) },
-    Mnemonic { name: "add", opcode: 5, op2: 0, shape: Shape::ThreeRegisters, immediate: Extension::SignExtended, operation: Operation::Computes(Computation::Add) },
-    Mnemonic { name: "sub", opcode: 6, op2: 0, shape: Shape::ThreeRegisters, immediate: Extension::SignExtended, operation: Operation::Computes(Computation::Sub) },
-    Mnemonic { name: "lsr", opcode: 0, op2: 1, shape: Shape::LastZero, immediate: Extension::Absent, operation: Operation::Shifts(Shift::Lsr) },
-    Mnemonic { name: "asr", opcode: 1, op2: 1, shape: Shape::LastZero, immediate: Extension::Absent, operation: Operation::Shifts(Shift::Asr) },
-    Mnemonic { name: "ldb", opcode: 0, op2: 2, shape: Shape::MiddleZero, immediate: Extension::Absent, operation: Operation::Loads(Width::Byte) },
-    Mnemonic { name: "ldw", opcode: 4, op2: 2, shape: Shape::MiddleZero, immediate: Extension::Absent, operation: Operation::Loads(Width::Word) },
-    Mnemonic { name: "stb", opcode: 1, op2: 2, shape: Shape::FirstZero, immediate: Extension::Absent, operation: Operation::Stores(Width::Byte) },
-    Mnemonic { name: "stw", opcode: 5, op2: 2, shape: Shape::FirstZero, immediate: Extension::Absent, operation: Operation::Stores(Width::Word) },
-    Mnemonic { name: "bez", opcode: 10, op2: 3, shape: Shape::FirstZero, immediate: Extension::SignExtended, operation: Operation::Branches(Condition::Zero) },
-    Mnemonic { name: "bnz", opcode: 11, op2: 3, shape: Shape::FirstZero, immediate: Extension::SignExtended, operation: Operation::Branches(Condition::NotZero) },
-    Mnemonic { name: "ldr", opcode: 8, op2: 0, shape: Shape::NumberOnly, immediate: Extension::SignExtended, operation: Operation::LoadsRegister },
-    Mnemonic { name: "ldc", opcode: 9, op2: 0, shape: Shape::NumberOnly, immediate: Extension::ZeroExtended, operation: Operation::LoadsConstant },
-    Mnemonic { name: "hcf", opcode: 0, op2: 3, shape: Shape::NoOperands, immediate: Extension::Absent, operation: Operation::Halts },
+    Mnemonic { name: "and", opcode: 0, op2: 0, shape: Some(Shape::ThreeRegisters), immediate: Some(Extension::ZeroExtended), operation: Operation::Computes(Computation::And) },
+    Mnemonic { name: "or", opcode: 1, op2: 0, shape: Some(Shape::ThreeRegisters), immediate: Some(Extension::ZeroExtended), operation: Operation::Computes(Computation::Or) },
+    Mnemonic { name: "xor", opcode: 2, op2: 0, shape: Some(Shape::ThreeRegisters), immediate: Some(Extension::SignExtended), operation: Operation::Computes(Computation::Xor) },
+    Mnemonic { name: "slt", opcode: 3, op2: 0, shape: Some(Shape::ThreeRegisters), immediate: Some(Extension::SignExtended), operation: Operation::Computes(Computation::Slt) },
+    Mnemonic { name: "sltu", opcode: 4, op2: 0, shape: Some(Shape::ThreeRegisters), immediate: Some(Extension::SignExtended), operation: Operation::Computes(Computation::Sltu) },
+    Mnemonic { name: "add", opcode: 5, op2: 0, shape: Some(Shape::ThreeRegisters), immediate: Some(Extension::SignExtended), operation: Operation::Computes(Computation::Add) },
+    Mnemonic { name: "sub", opcode: 6, op2: 0, shape: Some(Shape::ThreeRegisters), immediate: Some(Extension::SignExtended), operation: Operation::Computes(Computation::Sub) },
+    Mnemonic { name: "lsr", opcode: 0, op2: 1, shape: Some(Shape::LastZero), immediate: None, operation: Operation::Shifts(Shift::Lsr) },
+    Mnemonic { name: "asr", opcode: 1, op2: 1, shape: Some(Shape::LastZero), immediate: None, operation: Operation::Shifts(Shift::Asr) },
+    Mnemonic { name: "ldb", opcode: 0, op2: 2, shape: Some(Shape::MiddleZero), immediate: None, operation: Operation::Loads(Width::Byte) },
+    Mnemonic { name: "ldw", opcode: 4, op2: 2, shape: Some(Shape::MiddleZero), immediate: None, operation: Operation::Loads(Width::Word) },
+    Mnemonic { name: "stb", opcode: 1, op2: 2, shape: Some(Shape::FirstZero), immediate: None, operation: Operation::Stores(Width::Byte) },
+    Mnemonic { name: "stw", opcode: 5, op2: 2, shape: Some(Shape::FirstZero), immediate: None, operation: Operation::Stores(Width::Word) },
+    Mnemonic { name: "bez", opcode: 10, op2: 3, shape: Some(Shape::FirstZero), immediate: Some(Extension::SignExtended), operation: Operation::Branches(Condition::Zero) },
+    Mnemonic { name: "bnz", opcode: 11, op2: 3, shape: Some(Shape::FirstZero), immediate: Some(Extension::SignExtended), operation: Operation::Branches(Condition::NotZero) },
+    Mnemonic { name: "ldr", opcode: 8, op2: 0, shape: None, immediate: Some(Extension::SignExtended), operation: Operation::LoadsRegister },
+    Mnemonic { name: "ldc", opcode: 9, op2: 0, shape: None, immediate: Some(Extension::ZeroExtended), operation: Operation::LoadsConstant },
+    Mnemonic { name: "hcf", opcode: 0, op2: 3, shape: Some(Shape::NoOperands), immediate: None, operation: Operation::Halts },
 ];
 
 /// The whole table.
@@ -70,68 +68,6 @@ pub fn mnemonics() -> &'static [Mnemonic]
     ensures len { length result.now ≡ 18 }
 {
     &MNEMONICS
-}
-
-impl Mnemonic {
-    fn is_coded(&self, opcode: u8, op2: u8) -> bool
-        ensures { result ≡ is_coded opcode op2 (row_in self.now) }
-    {
-        self.opcode == opcode && self.op2 == op2
-    }
-
-    fn is_immediately_coded(&self, opcode: u8) -> bool
-        ensures { result ≡ is_immediately_coded opcode (row_in self.now) }
-    {
-        self.opcode == opcode && takes_immediate(self.immediate)
-    }
-
-    fn is_named(&self, name: &[u8]) -> bool
-        ensures { result ≡ is_named name.now (row_in self.now) }
-    {
-        self.name.as_bytes() == name
-    }
-}
-
-fn takes_immediate(extension: Extension) -> bool
-    ensures { result ≡ takes_immediate extension }
-{
-    match extension {
-        Extension::Absent => false,
-        Extension::ZeroExtended | Extension::SignExtended => true,
-    }
-}
-
-fn find_coded(table: &[Mnemonic], opcode: u8, op2: u8) -> Option<Operation>
-    ensures { result ≡ first (is_coded opcode op2) (map entry_in table.now) }
-{
-    for m in table {
-        if m.is_coded(opcode, op2) {
-            return Some(m.operation);
-        }
-    }
-    None
-}
-
-fn find_immediately_coded(table: &[Mnemonic], opcode: u8) -> Option<Operation>
-    ensures { result ≡ first (is_immediately_coded opcode) (map entry_in table.now) }
-{
-    for m in table {
-        if m.is_immediately_coded(opcode) {
-            return Some(m.operation);
-        }
-    }
-    None
-}
-
-fn find_named(table: &[Mnemonic], name: &[u8]) -> Option<Operation>
-    ensures { result ≡ first (is_named name.now) (map entry_in table.now) }
-{
-    for m in table {
-        if m.is_named(name) {
-            return Some(m.operation);
-        }
-    }
-    None
 }
 
 impl Operation {
@@ -175,21 +111,30 @@ impl Operation {
     pub fn coded(opcode: u8, op2: u8) -> Option<Operation>
         ensures { result ≡ coded opcode op2 }
     {
-        find_coded(mnemonics(), opcode, op2)
+        mnemonics()
+            .iter()
+            .find(|m| m.opcode == opcode && m.op2 == op2)
+            .map(|m| m.operation)
     }
 
     /// The operation with this opcode in a word whose Imm is 1.
     pub fn immediately_coded(opcode: u8) -> Option<Operation>
         ensures { result ≡ immediately_coded opcode }
     {
-        find_immediately_coded(mnemonics(), opcode)
+        mnemonics()
+            .iter()
+            .find(|m| m.opcode == opcode && m.immediate.is_some())
+            .map(|m| m.operation)
     }
 
     /// The operation with this mnemonic.
     pub fn named(name: &[u8]) -> Option<Operation>
         ensures { result ≡ named name.now }
     {
-        find_named(mnemonics(), name)
+        mnemonics()
+            .iter()
+            .find(|m| m.name.as_bytes() == name)
+            .map(|m| m.operation)
     }
 }
 

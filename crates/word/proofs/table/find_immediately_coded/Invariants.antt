@@ -1,6 +1,0 @@
-use Rattle.std.proofs.Common.{◌≡◌, map, drop}
-use Rattle.word.specs.Table.{entry_in, first, is_immediately_coded}
-use Rattle.word.proofs.table.find_immediately_coded.Given as goal
-
-abbrev pub invariant-loop-m : goal.invariant-loop-m
-invariant-loop-m l = first (is_immediately_coded l.opcode) (map entry_in (drop l.m-index l.table)) ≡ first (is_immediately_coded l.opcode) (map entry_in l.table)
