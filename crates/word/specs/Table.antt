@@ -54,27 +54,6 @@ operations =
     ∷ Shifts Lsr ∷ Shifts Asr ∷ Loads Byte ∷ Loads Word ∷ Stores Byte ∷ Stores Word
     ∷ Branches Zero ∷ Branches NotZero ∷ LoadsRegister ∷ LoadsConstant ∷ Halts ∷ []
 
--- Where an operation stands in that order, from 0.
-abbrev pub position : Operation → ℕ
-position (Computes And) = 0
-position (Computes Or) = 1
-position (Computes Xor) = 2
-position (Computes Slt) = 3
-position (Computes Sltu) = 4
-position (Computes Add) = 5
-position (Computes Sub) = 6
-position (Shifts Lsr) = 7
-position (Shifts Asr) = 8
-position (Loads Byte) = 9
-position (Loads Word) = 10
-position (Stores Byte) = 11
-position (Stores Word) = 12
-position (Branches Zero) = 13
-position (Branches NotZero) = 14
-position LoadsRegister = 15
-position LoadsConstant = 16
-position Halts = 17
-
 -- A row with its operation.
 pub record Entry : Type 0 where
   pub operation : Operation

@@ -1,8 +1,11 @@
 // The one table of mnemonics. Encoding, decoding, listing and assembling read it.
 ghost use Rattle.std.specs.Prelude.{◌≡◌, ◌<◌, map, length};
-ghost use Rattle.word.specs.Table.{row, row_in, entry_in, entries, position, is_coded, coded, is_immediately_coded, immediately_coded, is_named, named, NamesStand, CodesStand};
+ghost use Rattle.word.specs.Table.{row, row_in, entry_in, entries, is_coded, coded, is_immediately_coded, immediately_coded, is_named, named, NamesStand, CodesStand};
 
 use crate::instructions::{Computation, Condition, Operation, Shift, Width};
+use rows::{
+    ADD, AND, ASR, BEZ, BNZ, HCF, LDB, LDC, LDR, LDW, LSR, OR, SLT, SLTU, STB, STW, SUB, XOR,
+};
 
 /// Which operands stand in the register fields.
 #[derive(Clone, Copy, PartialEq, Eq, Debug)]
@@ -39,27 +42,34 @@ pub struct Mnemonic {
     pub operation: Operation,
 }
 
-// One row a line, so that it reads as a table.
+// One row a line, so that they read as a table.
 #[rattlefmt::skip]
+mod rows {
+    use super::{Extension, Mnemonic, Shape};
+    use crate::instructions::{Computation, Condition, Operation, Shift, Width};
+
+    pub const AND: Mnemonic = Mnemonic { name: "and", opcode: 0, op2: 0, shape: Some(Shape::ThreeRegisters), immediate: Some(Extension::ZeroExtended), operation: Operation::Computes(Computation::And) };
+    pub const OR: Mnemonic = Mnemonic { name: "or", opcode: 1, op2: 0, shape: Some(Shape::ThreeRegisters), immediate: Some(Extension::ZeroExtended), operation: Operation::Computes(Computation::Or) };
+    pub const XOR: Mnemonic = Mnemonic { name: "xor", opcode: 2, op2: 0, shape: Some(Shape::ThreeRegisters), immediate: Some(Extension::SignExtended), operation: Operation::Computes(Computation::Xor) };
+    pub const SLT: Mnemonic = Mnemonic { name: "slt", opcode: 3, op2: 0, shape: Some(Shape::ThreeRegisters), immediate: Some(Extension::SignExtended), operation: Operation::Computes(Computation::Slt) };
+    pub const SLTU: Mnemonic = Mnemonic { name: "sltu", opcode: 4, op2: 0, shape: Some(Shape::ThreeRegisters), immediate: Some(Extension::SignExtended), operation: Operation::Computes(Computation::Sltu) };
+    pub const ADD: Mnemonic = Mnemonic { name: "add", opcode: 5, op2: 0, shape: Some(Shape::ThreeRegisters), immediate: Some(Extension::SignExtended), operation: Operation::Computes(Computation::Add) };
+    pub const SUB: Mnemonic = Mnemonic { name: "sub", opcode: 6, op2: 0, shape: Some(Shape::ThreeRegisters), immediate: Some(Extension::SignExtended), operation: Operation::Computes(Computation::Sub) };
+    pub const LSR: Mnemonic = Mnemonic { name: "lsr", opcode: 0, op2: 1, shape: Some(Shape::LastZero), immediate: None, operation: Operation::Shifts(Shift::Lsr) };
+    pub const ASR: Mnemonic = Mnemonic { name: "asr", opcode: 1, op2: 1, shape: Some(Shape::LastZero), immediate: None, operation: Operation::Shifts(Shift::Asr) };
+    pub const LDB: Mnemonic = Mnemonic { name: "ldb", opcode: 0, op2: 2, shape: Some(Shape::MiddleZero), immediate: None, operation: Operation::Loads(Width::Byte) };
+    pub const LDW: Mnemonic = Mnemonic { name: "ldw", opcode: 4, op2: 2, shape: Some(Shape::MiddleZero), immediate: None, operation: Operation::Loads(Width::Word) };
+    pub const STB: Mnemonic = Mnemonic { name: "stb", opcode: 1, op2: 2, shape: Some(Shape::FirstZero), immediate: None, operation: Operation::Stores(Width::Byte) };
+    pub const STW: Mnemonic = Mnemonic { name: "stw", opcode: 5, op2: 2, shape: Some(Shape::FirstZero), immediate: None, operation: Operation::Stores(Width::Word) };
+    pub const BEZ: Mnemonic = Mnemonic { name: "bez", opcode: 10, op2: 3, shape: Some(Shape::FirstZero), immediate: Some(Extension::SignExtended), operation: Operation::Branches(Condition::Zero) };
+    pub const BNZ: Mnemonic = Mnemonic { name: "bnz", opcode: 11, op2: 3, shape: Some(Shape::FirstZero), immediate: Some(Extension::SignExtended), operation: Operation::Branches(Condition::NotZero) };
+    pub const LDR: Mnemonic = Mnemonic { name: "ldr", opcode: 8, op2: 0, shape: None, immediate: Some(Extension::SignExtended), operation: Operation::LoadsRegister };
+    pub const LDC: Mnemonic = Mnemonic { name: "ldc", opcode: 9, op2: 0, shape: None, immediate: Some(Extension::ZeroExtended), operation: Operation::LoadsConstant };
+    pub const HCF: Mnemonic = Mnemonic { name: "hcf", opcode: 0, op2: 3, shape: Some(Shape::NoOperands), immediate: None, operation: Operation::Halts };
+}
+
 const MNEMONICS: [Mnemonic; 18] = [
-    Mnemonic { name: "and", opcode: 0, op2: 0, shape: Some(Shape::ThreeRegisters), immediate: Some(Extension::ZeroExtended), operation: Operation::Computes(Computation::And) },
-    Mnemonic { name: "or", opcode: 1, op2: 0, shape: Some(Shape::ThreeRegisters), immediate: Some(Extension::ZeroExtended), operation: Operation::Computes(Computation::Or) },
-    Mnemonic { name: "xor", opcode: 2, op2: 0, shape: Some(Shape::ThreeRegisters), immediate: Some(Extension::SignExtended), operation: Operation::Computes(Computation::Xor) },
-    Mnemonic { name: "slt", opcode: 3, op2: 0, shape: Some(Shape::ThreeRegisters), immediate: Some(Extension::SignExtended), operation: Operation::Computes(Computation::Slt) },
-    Mnemonic { name: "sltu", opcode: 4, op2: 0, shape: Some(Shape::ThreeRegisters), immediate: Some(Extension::SignExtended), operation: Operation::Computes(Computation::Sltu) },
-    Mnemonic { name: "add", opcode: 5, op2: 0, shape: Some(Shape::ThreeRegisters), immediate: Some(Extension::SignExtended), operation: Operation::Computes(Computation::Add) },
-    Mnemonic { name: "sub", opcode: 6, op2: 0, shape: Some(Shape::ThreeRegisters), immediate: Some(Extension::SignExtended), operation: Operation::Computes(Computation::Sub) },
-    Mnemonic { name: "lsr", opcode: 0, op2: 1, shape: Some(Shape::LastZero), immediate: None, operation: Operation::Shifts(Shift::Lsr) },
-    Mnemonic { name: "asr", opcode: 1, op2: 1, shape: Some(Shape::LastZero), immediate: None, operation: Operation::Shifts(Shift::Asr) },
-    Mnemonic { name: "ldb", opcode: 0, op2: 2, shape: Some(Shape::MiddleZero), immediate: None, operation: Operation::Loads(Width::Byte) },
-    Mnemonic { name: "ldw", opcode: 4, op2: 2, shape: Some(Shape::MiddleZero), immediate: None, operation: Operation::Loads(Width::Word) },
-    Mnemonic { name: "stb", opcode: 1, op2: 2, shape: Some(Shape::FirstZero), immediate: None, operation: Operation::Stores(Width::Byte) },
-    Mnemonic { name: "stw", opcode: 5, op2: 2, shape: Some(Shape::FirstZero), immediate: None, operation: Operation::Stores(Width::Word) },
-    Mnemonic { name: "bez", opcode: 10, op2: 3, shape: Some(Shape::FirstZero), immediate: Some(Extension::SignExtended), operation: Operation::Branches(Condition::Zero) },
-    Mnemonic { name: "bnz", opcode: 11, op2: 3, shape: Some(Shape::FirstZero), immediate: Some(Extension::SignExtended), operation: Operation::Branches(Condition::NotZero) },
-    Mnemonic { name: "ldr", opcode: 8, op2: 0, shape: None, immediate: Some(Extension::SignExtended), operation: Operation::LoadsRegister },
-    Mnemonic { name: "ldc", opcode: 9, op2: 0, shape: None, immediate: Some(Extension::ZeroExtended), operation: Operation::LoadsConstant },
-    Mnemonic { name: "hcf", opcode: 0, op2: 3, shape: Some(Shape::NoOperands), immediate: None, operation: Operation::Halts },
+    AND, OR, XOR, SLT, SLTU, ADD, SUB, LSR, ASR, LDB, LDW, STB, STW, BEZ, BNZ, LDR, LDC, HCF,
 ];
 
 /// The whole table.
@@ -71,40 +81,31 @@ pub fn mnemonics() -> &'static [Mnemonic]
 }
 
 impl Operation {
-    // Where its row stands in the table.
-    fn position(self) -> usize
-        ensures value { result ≡ position self }
-        ensures inside { result < 18 }
-    {
-        match self {
-            Operation::Computes(Computation::And) => 0,
-            Operation::Computes(Computation::Or) => 1,
-            Operation::Computes(Computation::Xor) => 2,
-            Operation::Computes(Computation::Slt) => 3,
-            Operation::Computes(Computation::Sltu) => 4,
-            Operation::Computes(Computation::Add) => 5,
-            Operation::Computes(Computation::Sub) => 6,
-            Operation::Shifts(Shift::Lsr) => 7,
-            Operation::Shifts(Shift::Asr) => 8,
-            Operation::Loads(Width::Byte) => 9,
-            Operation::Loads(Width::Word) => 10,
-            Operation::Stores(Width::Byte) => 11,
-            Operation::Stores(Width::Word) => 12,
-            Operation::Branches(Condition::Zero) => 13,
-            Operation::Branches(Condition::NotZero) => 14,
-            Operation::LoadsRegister => 15,
-            Operation::LoadsConstant => 16,
-            Operation::Halts => 17,
-        }
-    }
-
     /// Its row of the table.
     pub fn mnemonic(self) -> Mnemonic
         ensures row { row_in result ≡ row self }
         ensures operation { result.operation ≡ self }
     {
-        let table = mnemonics();
-        table[self.position()]
+        match self {
+            Operation::Computes(Computation::And) => AND,
+            Operation::Computes(Computation::Or) => OR,
+            Operation::Computes(Computation::Xor) => XOR,
+            Operation::Computes(Computation::Slt) => SLT,
+            Operation::Computes(Computation::Sltu) => SLTU,
+            Operation::Computes(Computation::Add) => ADD,
+            Operation::Computes(Computation::Sub) => SUB,
+            Operation::Shifts(Shift::Lsr) => LSR,
+            Operation::Shifts(Shift::Asr) => ASR,
+            Operation::Loads(Width::Byte) => LDB,
+            Operation::Loads(Width::Word) => LDW,
+            Operation::Stores(Width::Byte) => STB,
+            Operation::Stores(Width::Word) => STW,
+            Operation::Branches(Condition::Zero) => BEZ,
+            Operation::Branches(Condition::NotZero) => BNZ,
+            Operation::LoadsRegister => LDR,
+            Operation::LoadsConstant => LDC,
+            Operation::Halts => HCF,
+        }
     }
 
     /// The operation with this opcode and, in a word whose Imm is 0, this op2.
