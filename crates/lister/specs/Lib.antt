@@ -1,4 +1,3 @@
 pub mod Lines
-pub mod Scratch
 pub mod Answers
 pub mod Reports

@@ -1,5 +1,5 @@
 -- The line of an instruction, as bytes.
-use Rattle.std.specs.Prelude.{ℕ, ◌+◌, ◌-◌, ◌/◌, ◌%◌, cond, List, [], ◌∷◌, ◌++◌, Some, None, Option, codes, nat_lt}
+use Rattle.std.specs.Prelude.{ℕ, ◌+◌, ◌-◌, cond, List, [], ◌∷◌, ◌++◌, Some, None, Option, codes, decimal, nat_lt}
 use Rattle.word.specs.declared.registers.Register.{Register}
 use Rattle.word.specs.declared.instructions.Instruction.{Instruction}
 use Rattle.word.specs.declared.instructions.Fields.{Fields}
@@ -15,18 +15,11 @@ use Rattle.word.specs.Words.{fields}
 abbrev pub digit : ℕ → ℕ
 digit d = 48 + d
 
--- A byte in decimal, with no needless 0 in front.
-abbrev pub decimal : ℕ → List ℕ
-decimal n =
-    cond (nat_lt n 10) (digit n ∷ [])
-    (cond (nat_lt n 100) (digit (n / 10) ∷ digit (n % 10) ∷ [])
-    (digit (n / 100) ∷ digit (n / 10 % 10) ∷ digit (n % 10) ∷ []))
-
 -- A byte that stands for −128 to 127, in decimal with its sign.
 abbrev pub signed_decimal : ℕ → List ℕ
 signed_decimal n = cond (nat_lt n 128) (decimal n) (codes "-" ++ decimal (256 - n))
 
--- An immediate: signed where the word extends its sign.
+-- An immediate in decimal, with no needless 0 in front: signed where the word extends its sign.
 abbrev pub immediate_text : Option Extension → ℕ → List ℕ
 immediate_text None n = decimal n
 immediate_text (Some ZeroExtended) n = decimal n

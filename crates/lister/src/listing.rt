@@ -1,19 +1,17 @@
 // A word's line, into a lent buffer.
-ghost use Rattle.std.specs.Prelude.{◌≡◌, ◌≤◌};
-ghost use Rattle.lister.specs.Lines.{line_of_fields};
-ghost use Rattle.lister.specs.Scratch.{held};
+ghost use Rattle.std.specs.Prelude.{◌≡◌};
 ghost use Rattle.lister.specs.Answers.{number_of, answer, buffer_after};
 
-use crate::line::Line;
-use word::{Fields, Operation, Register, decode};
+use crate::line::line_of;
+use word::decode;
 
 /// Why a word was not listed.
-#[derive(Clone, Copy, Debug, PartialEq)]
+#[derive(Clone, Copy, PartialEq, Eq, Debug)]
 pub enum Refusal {
     /// The word is not valid.
-    NotValid,
+    NotValid = 16,
     /// The buffer is shorter than the line.
-    DoesNotFit,
+    DoesNotFit = 17,
 }
 
 impl Refusal {
@@ -21,54 +19,7 @@ impl Refusal {
     pub fn number(self) -> u8
         ensures { result ≡ number_of self }
     {
-        match self {
-            Refusal::NotValid => 16,
-            Refusal::DoesNotFit => 17,
-        }
-    }
-}
-
-fn register_line(operation: Operation, a: Register, b: Register, c: Register) -> Line
-    ensures text { held result ≡ line_of_fields (Fields.Registers operation a b c) }
-    ensures size { result.len ≤ 16 }
-{
-    let mut line = Line::new();
-    line.push(b'\t');
-    line.push_name(operation);
-    line.push_registers(operation, a, b, c);
-    line.push(b'\n');
-    line
-}
-
-fn number_line(operation: Operation, a: Register, n: u8) -> Line
-    ensures text { held result ≡ line_of_fields (Fields.Immediate operation a n) }
-    ensures size { result.len ≤ 16 }
-{
-    let mut line = Line::new();
-    line.push(b'\t');
-    line.push_name(operation);
-    line.push_number(operation, a, n);
-    line.push(b'\n');
-    line
-}
-
-/// The line with these fields.
-pub(crate) fn line_of(fields: Fields) -> Line
-    ensures text { held result ≡ line_of_fields fields }
-    ensures size { result.len ≤ 16 }
-{
-    match fields {
-        Fields::Registers {
-            operation,
-            rst,
-            rsa,
-            rsb,
-        } => register_line(operation, rst, rsa, rsb),
-        Fields::Immediate {
-            operation,
-            rst,
-            immediate,
-        } => number_line(operation, rst, immediate),
+        self as u8
     }
 }
 
@@ -77,14 +28,12 @@ pub fn list(word: u16, buffer: &mut [u8]) -> Result<usize, Refusal>
     ensures answer { result ≡ answer word buffer.old }
     ensures buffer { buffer.new ≡ buffer_after word buffer.old }
 {
-    let Some(instruction) = decode(word) else {
-        return Err(Refusal::NotValid);
-    };
+    let instruction = decode(word).ok_or(Refusal::NotValid)?;
     let line = line_of(instruction.fields());
-    let n = line.len;
+    let n = line.len();
     if buffer.len() < n {
         return Err(Refusal::DoesNotFit);
     }
-    buffer[..n].copy_from_slice(&line.bytes[..n]);
+    buffer[..n].copy_from_slice(line.as_bytes());
     Ok(n)
 }

@@ -3,7 +3,7 @@ ghost use Rattle.std.specs.Prelude.{◌≡◌, ◌<◌, false, ◌++◌, IfSome,
 ghost use Rattle.lister.specs.Reports.{hex_digit, word_in, report_of, report_for, report, is_listed_for, is_listed, Added};
 ghost use Rattle.word.specs.Words.{decoded};
 
-use crate::listing::line_of;
+use crate::line::line_of;
 use std::alloc::{AllocError, Global};
 use word::decode;
 
@@ -11,25 +11,20 @@ fn hex_digit(byte: u8) -> Option<u16>
     ensures value { result ≡ hex_digit byte }
     ensures small { IfSome result (λ d. d < 16) }
 {
-    match byte as char {
-        '0'..='9' => Some((byte - b'0') as u16),
-        'A'..='F' => Some((byte - b'A' + 10) as u16),
-        'a'..='f' => Some((byte - b'a' + 10) as u16),
-        _ => None,
-    }
+    char::from(byte).to_digit(16).map(|d| d as u16)
 }
 
 /// The word that a line of exactly four hexadecimal digits names.
 pub fn word_in(text: &[u8]) -> Option<u16>
     ensures { result ≡ word_in text.now }
 {
-    if text.len() != 4 {
+    let &[a, b, c, d] = text else {
         return None;
-    }
-    let a = hex_digit(text[0])?;
-    let b = hex_digit(text[1])?;
-    let c = hex_digit(text[2])?;
-    let d = hex_digit(text[3])?;
+    };
+    let a = hex_digit(a)?;
+    let b = hex_digit(b)?;
+    let c = hex_digit(c)?;
+    let d = hex_digit(d)?;
     Some(a * 4096 + b * 256 + c * 16 + d)
 }
 
@@ -51,7 +46,7 @@ fn add_listed(word: u16, out: &mut Vec<u8>) -> Result<bool, AllocError>
         return Ok(false);
     };
     let line = line_of(instruction.fields());
-    out.extend_from_slice(&line.bytes[0..line.len])?;
+    out.extend_from_slice(line.as_bytes())?;
     Ok(true)
 }
 
