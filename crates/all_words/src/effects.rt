@@ -1,16 +1,18 @@
 // What a word at a fixed address does to the registers, told and not done.
+use std::fmt;
 use word::{Condition, Instruction, Operation, Register, Width, arithmetic};
 
 /// Where the words stand: next addresses and branches wrap from here.
 const ADDRESS: u16 = 0xFFF0;
 
+#[derive(Clone, Copy, PartialEq, Eq, Debug)]
 pub enum Effect {
     Register {
-        number: u8,
+        target: Register,
         value: u16,
     },
     Load {
-        number: u8,
+        target: Register,
         width: Width,
         address: u16,
     },
@@ -26,14 +28,11 @@ pub enum Effect {
 }
 
 fn value(registers: &[u16; 8], register: Register) -> u16 {
-    registers[register.number() as usize]
+    registers[usize::from(register.number())]
 }
 
-fn put(register: Register, value: u16) -> Effect {
-    Effect::Register {
-        number: register.number(),
-        value,
-    }
+fn put(target: Register, value: u16) -> Effect {
+    Effect::Register { target, value }
 }
 
 fn immediate_value(operation: Operation, immediate: u8) -> u16 {
@@ -52,13 +51,40 @@ fn branch(condition: Condition, tested: u16, target: u16) -> Effect {
 
 fn store(width: Width, address: u16, value: u16) -> Effect {
     let value = match width {
-        Width::Byte => arithmetic::low_byte(value) as u16,
+        Width::Byte => u16::from(arithmetic::low_byte(value)),
         Width::Word => value,
     };
     Effect::Store {
         width,
         address,
         value,
+    }
+}
+
+fn name(width: Width) -> &'static str {
+    match width {
+        Width::Byte => "byte",
+        Width::Word => "word",
+    }
+}
+
+impl fmt::Display for Effect {
+    fn fmt<W: fmt::Write>(&self, f: &mut fmt::Formatter<W>) -> fmt::Result {
+        match *self {
+            Effect::Register { target, value } => write!(f, "r{}={value:04x}", target.number()),
+            Effect::Load {
+                target,
+                width,
+                address,
+            } => write!(f, "r{}<-{} {address:04x}", target.number(), name(width)),
+            Effect::Store {
+                width,
+                address,
+                value,
+            } => write!(f, "{value:04x}->{} {address:04x}", name(width)),
+            Effect::Next { address } => write!(f, "next={address:04x}"),
+            Effect::Halt => write!(f, "halt"),
+        }
     }
 }
 
@@ -96,7 +122,7 @@ pub fn effect_of(instruction: Instruction, r: &[u16; 8]) -> Effect {
             target,
             address,
         } => Effect::Load {
-            number: target.number(),
+            target,
             width,
             address: value(r, address),
         },

@@ -4,11 +4,12 @@
 
 mod effects;
 
-use effects::{Effect, effect_of};
+use effects::effect_of;
 use lister::list;
 use std::alloc::AllocError;
 use std::io::Write;
-use word::{Width, decode};
+use std::str::from_utf8;
+use word::decode;
 
 const REGISTERS: [[u16; 8]; 2] = [
     [
@@ -19,118 +20,48 @@ const REGISTERS: [[u16; 8]; 2] = [
     ],
 ];
 
-fn hex_digit(n: u16) -> u8 {
-    let digit = (n % 16) as u8;
-    if digit < 10 {
-        b'0' + digit
-    } else {
-        b'a' + (digit - 10)
+// The run of words that are not valid, if the words before were such.
+fn end_run(out: &mut String, first: Option<u16>, last: u16) -> Result<(), AllocError> {
+    match first {
+        Some(first) => writeln!(out, "{first:04x}-{last:04x} refused 16"),
+        None => Ok(()),
     }
-}
-
-fn push_hex(out: &mut Vec<u8>, n: u16) -> Result<(), AllocError> {
-    out.push(hex_digit(n >> 12))?;
-    out.push(hex_digit(n >> 8))?;
-    out.push(hex_digit(n >> 4))?;
-    out.push(hex_digit(n))?;
-    Ok(())
-}
-
-fn push_effect(out: &mut Vec<u8>, effect: Effect) -> Result<(), AllocError> {
-    match effect {
-        Effect::Register { number, value } => {
-            out.extend_from_slice(b" r")?;
-            out.push(hex_digit(number as u16))?;
-            out.push(b'=')?;
-            push_hex(out, value)
-        }
-        Effect::Load {
-            number,
-            width,
-            address,
-        } => {
-            out.extend_from_slice(b" r")?;
-            out.push(hex_digit(number as u16))?;
-            push_width(out, b"<-", width)?;
-            push_hex(out, address)
-        }
-        Effect::Store {
-            width,
-            address,
-            value,
-        } => {
-            out.push(b' ')?;
-            push_hex(out, value)?;
-            push_width(out, b"->", width)?;
-            push_hex(out, address)
-        }
-        Effect::Next { address } => {
-            out.extend_from_slice(b" next=")?;
-            push_hex(out, address)
-        }
-        Effect::Halt => out.extend_from_slice(b" halt"),
-    }
-}
-
-fn push_width(out: &mut Vec<u8>, arrow: &[u8], width: Width) -> Result<(), AllocError> {
-    out.extend_from_slice(arrow)?;
-    match width {
-        Width::Byte => out.extend_from_slice(b"byte "),
-        Width::Word => out.extend_from_slice(b"word "),
-    }
-}
-
-// The first of a run of words that are not valid, if the word before was such a one.
-fn end_run(out: &mut Vec<u8>, first: Option<u16>, last: u16) -> Result<(), AllocError> {
-    let Some(first) = first else {
-        return Ok(());
-    };
-    push_hex(out, first)?;
-    out.push(b'-')?;
-    push_hex(out, last)?;
-    out.extend_from_slice(b" refused 16\n")
 }
 
 // The word's digits, its line without LF, and its two effects.
-fn push_listed(out: &mut Vec<u8>, word: u16, line: &[u8]) -> Result<(), AllocError> {
-    push_hex(out, word)?;
-    for byte in line {
-        if *byte != b'\n' {
-            out.push(*byte)?;
+fn push_listed(out: &mut String, word: u16, line: &str) -> Result<(), AllocError> {
+    let line = line.trim_end();
+    write!(out, "{word:04x}{line} ;")?;
+    if let Some(instruction) = decode(word) {
+        for registers in &REGISTERS {
+            let effect = effect_of(instruction, registers);
+            write!(out, " {effect}")?;
         }
     }
-    out.extend_from_slice(b" ;")?;
-    if let Some(instruction) = decode(word) {
-        push_effect(out, effect_of(instruction, &REGISTERS[0]))?;
-        push_effect(out, effect_of(instruction, &REGISTERS[1]))?;
-    }
-    out.push(b'\n')?;
-    Ok(())
+    writeln!(out)
 }
 
-fn push_all(out: &mut Vec<u8>) -> Result<(), AllocError> {
+fn push_all(out: &mut String) -> anyhow::Result<()> {
     let mut run = None;
     for word in 0..=0xFFFFu16 {
         let mut buffer = [0; 16];
         match list(word, &mut buffer) {
             Ok(n) => {
-                end_run(out, run, word.wrapping_sub(1))?;
-                run = None;
-                push_listed(out, word, &buffer[0..n.min(16)])?;
+                end_run(out, run.take(), word.wrapping_sub(1))?;
+                push_listed(out, word, from_utf8(&buffer[..n.min(16)])?)?;
             }
             Err(_) => {
-                if run.is_none() {
-                    run = Some(word);
-                }
+                run.get_or_insert(word);
             }
         }
     }
-    end_run(out, run, 0xFFFF)
+    end_run(out, run, 0xFFFF)?;
+    Ok(())
 }
 
 fn main(rt: HostRuntime) -> anyhow::Result<()> {
-    let mut out = Vec::new(rt.alloc());
+    let mut out = String::new(rt.alloc());
     push_all(&mut out)?;
-    rt.stdout().write_all(out.as_slice())?;
+    rt.stdout().write_all(out.as_bytes())?;
     Ok(())
 }

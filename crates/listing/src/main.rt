@@ -1,6 +1,7 @@
 // Words from standard input, four hexadecimal digits a line, as the lines that assemble to them.
 #![tactic(auto)]
 
+use arrayvec::ArrayVec;
 use lister::report;
 use std::alloc::{AllocError, Global};
 use std::io::{Read, Write};
@@ -12,9 +13,9 @@ const KEPT: usize = 5;
 // The answers to the input so far, and the line that is being read.
 #[derive(Drop)]
 struct Transcript {
+    heap: Global,
     number: u64,
-    line: [u8; KEPT],
-    len: usize,
+    line: ArrayVec<u8, KEPT>,
     all_listed: bool,
     out: Vec<u8>,
 }
@@ -22,46 +23,35 @@ struct Transcript {
 impl Transcript {
     fn new(heap: Global) -> Transcript {
         Transcript {
+            heap,
             number: 1,
-            line: [0; KEPT],
-            len: 0,
+            line: ArrayVec::new(),
             all_listed: true,
             out: Vec::new(heap),
         }
     }
 
-    fn end_line(&mut self, heap: Global) -> Result<(), AllocError> {
-        let line = self.line;
-        let len = self.len.min(KEPT);
-        let listed = report(heap, self.number, &line[0..len], &mut self.out)?;
-        self.all_listed = self.all_listed && listed;
+    fn end_line(&mut self) -> Result<(), AllocError> {
+        let listed = report(self.heap, self.number, &self.line, &mut self.out)?;
+        self.all_listed &= listed;
         self.number = self.number.saturating_add(1);
-        self.len = 0;
+        self.line.clear();
         Ok(())
     }
 
-    fn push(&mut self, heap: Global, byte: u8) -> Result<(), AllocError> {
+    fn push(&mut self, byte: u8) -> Result<(), AllocError> {
         if byte == b'\n' {
-            return self.end_line(heap);
-        }
-        if self.len < KEPT {
-            self.line[self.len] = byte;
-            self.len += 1;
-        }
-        Ok(())
-    }
-
-    fn push_all(&mut self, heap: Global, bytes: &[u8]) -> Result<(), AllocError> {
-        for byte in bytes {
-            self.push(heap, *byte)?;
+            self.end_line()?;
+        } else if !self.line.is_full() {
+            self.line.push(byte);
         }
         Ok(())
     }
 
     // The last line may lack its LF.
-    fn finish(&mut self, heap: Global) -> Result<(), AllocError> {
-        if self.len > 0 {
-            self.end_line(heap)?;
+    fn finish(&mut self) -> Result<(), AllocError> {
+        if !self.line.is_empty() {
+            self.end_line()?;
         }
         Ok(())
     }
@@ -75,16 +65,18 @@ fn transcribe(rt: &HostRuntime) -> anyhow::Result<bool> {
     let mut buffer = vec![in heap; 0u8; 65536]?;
     let mut transcript = Transcript::new(heap);
     for _ in 0..u64::MAX {
-        let n = input.read(buffer.as_mut_slice())?;
-        if n == 0 || n > buffer.len() {
+        let n = input.read(&mut buffer)?;
+        if n == 0 {
             break;
         }
-        transcript.push_all(heap, &buffer.as_slice()[0..n])?;
-        output.write_all(transcript.out.as_slice())?;
+        for byte in &buffer[..n] {
+            transcript.push(*byte)?;
+        }
+        output.write_all(&transcript.out)?;
         transcript.out.clear();
     }
-    transcript.finish(heap)?;
-    output.write_all(transcript.out.as_slice())?;
+    transcript.finish()?;
+    output.write_all(&transcript.out)?;
     Ok(transcript.all_listed)
 }
 
