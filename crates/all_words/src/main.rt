@@ -48,7 +48,7 @@ fn push_all(out: &mut String) -> anyhow::Result<()> {
         match list(word, &mut buffer) {
             Ok(n) => {
                 end_run(out, run.take(), word.wrapping_sub(1))?;
-                push_listed(out, word, from_utf8(&buffer[..n.min(16)])?)?;
+                push_listed(out, word, from_utf8(&buffer[..n])?)?;
             }
             Err(_) => {
                 run.get_or_insert(word);

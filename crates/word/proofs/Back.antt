@@ -12,7 +12,7 @@ use Rattle.word.specs.declared.instructions.Fields.TheVariants.{Registers, Immed
 use Rattle.word.specs.Registers.{register}
 use Rattle.word.specs.Table.{row, coded, immediately_coded}
 use Rattle.word.specs.Words.{register_word, immediate_word, fields, packed, encoded, is_zero, keeps_zero, with_registers, with_immediate, of_registers, of_immediate, decoded}
-use Rattle.word.specs.Laws.{ByteIn, HasByte, DecodesBack, EncodesBack, Gives}
+use Rattle.word.specs.Laws.{ByteIn, HasByte, DecodesBack, EncodesBack}
 use Rattle.word.proofs.Numbered.{same-register}
 use Rattle.word.proofs.Lookups.{both, codes_of, opcode_of, placed, shape_of, shaped, computes_found, branches_found}
 
@@ -154,10 +154,3 @@ encodes_back w i small e = by (eqb (w / 2048 % 2) 0) refl e
         → (encoded i ≡ w) × HasByte i
     by true t f = forth_registers w i _ (grind (arith, nat_tests)) refl f
     by false t f = forth_immediate w i _ (λ z. grind (arith, nat_tests)) refl f
-
-pub gives : (w : ℕ) → w < 65536 → Gives w (decoded w)
-gives w small = by (decoded w) refl
-  where
-    by : (o : Option Instruction) → decoded w ≡ o → Gives w o
-    by None e = tt
-    by (Some i) e = (encodes_back w i small e).0

@@ -1,6 +1,5 @@
 pub mod Numbered
 pub mod Firsts
-pub mod Rows
 pub mod Packs
 pub mod Lookups
 pub mod Back

@@ -1,8 +1,7 @@
 -- A register is known by its number.
-use Rattle.std.proofs.Common.{◌≡◌, ℕ, ◌<◌, ap, subst, arith}
+use Rattle.std.proofs.Common.{◌≡◌, ℕ, ◌<◌, ap, subst}
 use native.Mathlib.Bridge.{le_prop}
 use Rattle.word.specs.declared.registers.Register.{Register}
-use Rattle.word.specs.Registers.{register}
 
 abbrev numbered : (n : ℕ) → n < 8 → Register
 numbered n h = record { number = n; small = h }
@@ -10,7 +9,3 @@ numbered n h = record { number = n; small = h }
 pub same-register : (r s : Register) → r.number ≡ s.number → r ≡ s
 same-register r s e =
     subst (λ (n : ℕ). (h : n < 8) → r ≡ numbered n h) e (λ h. ap (numbered r.number) (le_prop r.small h)) s.small
-
--- the register of a register's number is that register
-pub register-back : (r : Register) → register r.number ≡ r
-register-back r = same-register _ r (let h = r.small in omega arith)
