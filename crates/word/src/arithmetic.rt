@@ -16,11 +16,7 @@ pub fn zero_extend(byte: u8) -> u16
 pub fn sign_extend(byte: u8) -> u16
     ensures { result ≡ sign_extend byte }
 {
-    if byte < 0x80 {
-        zero_extend(byte)
-    } else {
-        0xFF00 + zero_extend(byte)
-    }
+    i16::from(byte.cast_signed()).cast_unsigned()
 }
 
 /// The value of an immediate; 0 where there is none.
@@ -56,15 +52,14 @@ pub fn xor(a: u16, b: u16) -> u16
 pub fn slt(a: u16, b: u16) -> u16
     ensures { result ≡ slt a b }
 {
-    // Moved up by half the range, signed numbers stand in the order of unsigned ones.
-    sltu(a.wrapping_add(0x8000), b.wrapping_add(0x8000))
+    u16::from(a.cast_signed() < b.cast_signed())
 }
 
 /// 1 where a is below b as unsigned numbers, else 0.
 pub fn sltu(a: u16, b: u16) -> u16
     ensures { result ≡ sltu a b }
 {
-    if a < b { 1 } else { 0 }
+    u16::from(a < b)
 }
 
 pub fn add(a: u16, b: u16) -> u16
@@ -119,7 +114,7 @@ pub fn lsr(a: u16) -> u16
 pub fn asr(a: u16) -> u16
     ensures { result ≡ asr a }
 {
-    if a < 0x8000 { lsr(a) } else { 0x8000 + lsr(a) }
+    (a.cast_signed() >> 1).cast_unsigned()
 }
 
 pub fn shift_right(shift: Shift, a: u16) -> u16
