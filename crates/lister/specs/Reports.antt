@@ -1,8 +1,8 @@
 -- What is printed for a line of input that should name a word.
-use Rattle.std.specs.Prelude.{◌≡◌, ℕ, ◌+◌, ◌-◌, ◌*◌, Bool, true, false, cond, ◌&&◌, List, ◌++◌, length, Some, None, codes, decimal, Option, Result, MatchResult, ◌==◌, nat_le, slice_index}
+use Rattle.std.specs.Prelude.{◌≡◌, ℕ, ◌+◌, ◌-◌, ◌*◌, Bool, false, cond, ◌&&◌, List, ◌++◌, length, Some, None, codes, decimal, Option, Result, MatchResult, ◌==◌, nat_le, slice_index}
 use Rattle.std.specs.declared.alloc.AllocError.{AllocError}
 use Rattle.word.specs.declared.instructions.Instruction.{Instruction}
-use Rattle.word.specs.Words.{decoded}
+use Rattle.word.specs.Words.{decoded, is_valid}
 use Rattle.lister.specs.Lines.{line_of}
 
 -- Is a byte between two others, both included?
@@ -46,13 +46,9 @@ abbrev pub report : ℕ → List ℕ → List ℕ
 report number text = report_for number (word_in text)
 
 -- Does it name a valid word?
-abbrev pub is_listed_for : Option Instruction → Bool
-is_listed_for None = false
-is_listed_for (Some i) = true
-
 abbrev pub is_listed_in : Option ℕ → Bool
 is_listed_in None = false
-is_listed_in (Some word) = is_listed_for (decoded word)
+is_listed_in (Some word) = is_valid word
 
 abbrev pub is_listed : List ℕ → Bool
 is_listed text = is_listed_in (word_in text)

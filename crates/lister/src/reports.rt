@@ -1,7 +1,7 @@
 // Lines of input that name words, and what is printed for each.
 ghost use Rattle.std.specs.Prelude.{◌≡◌, ◌<◌, false, ◌++◌, IfSome, None};
-ghost use Rattle.lister.specs.Reports.{hex_digit, word_in, report_of, report_for, report, is_listed_for, is_listed, Added};
-ghost use Rattle.word.specs.Words.{decoded};
+ghost use Rattle.lister.specs.Reports.{hex_digit, word_in, report_of, report_for, report, is_listed, Added};
+ghost use Rattle.word.specs.Words.{decoded, is_valid};
 
 use crate::line::line_of;
 use std::alloc::{AllocError, Global};
@@ -39,7 +39,7 @@ fn add_malformed(heap: Global, number: u64, out: &mut Vec<u8>) -> Result<bool, A
 }
 
 fn add_listed(word: u16, out: &mut Vec<u8>) -> Result<bool, AllocError>
-    ensures { Added result (is_listed_for (decoded word)) (report_of (decoded word)) out.old.items out.new.items }
+    ensures { Added result (is_valid word) (report_of (decoded word)) out.old.items out.new.items }
 {
     let Some(instruction) = decode(word) else {
         out.extend_from_slice(b"refused 16\n")?;

@@ -64,6 +64,7 @@ fn transcribe(rt: &HostRuntime) -> anyhow::Result<bool> {
     let mut output = rt.stdout();
     let mut buffer = vec![in heap; 0u8; 65536]?;
     let mut transcript = Transcript::new(heap);
+    // Stays: a loop without a bound would ask for a handle, and the library's iterators over lines keep a line whole.
     for _ in 0..u64::MAX {
         let n = input.read(&mut buffer)?;
         if n == 0 {
