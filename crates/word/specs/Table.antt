@@ -15,7 +15,7 @@ use Rattle.word.specs.declared.table.Extension.TheVariants.{ZeroExtended, SignEx
 use Rattle.word.specs.declared.table.Mnemonic.{Mnemonic}
 
 -- A row: the mnemonic's text, its opcode, its op2 where Imm is 0, which register fields are free there, and how an
--- immediate is extended where Imm is 1; a mnemonic that has no words with that Imm has none of the two.
+-- immediate is extended where Imm is 1. A shape or an extension is None where the mnemonic has no words with that Imm.
 pub record Row : Type 0 where
   pub name : List ℕ
   pub opcode : ℕ
