@@ -1,5 +1,5 @@
 -- Flat memory: lent bytes as cells.
-use Rattle.std.specs.Prelude.{ℕ, ◌%◌, cond, List, [], ◌∷◌, length, drop, nat_lt, slice_index}
+use Rattle.std.specs.Prelude.{ℕ, ◌%◌, cond, List, [], ◌∷◌, length, drop, take, nat_lt, slice_index}
 use Rattle.std.specs.Borrow.{GName}
 use Rattle.bus.specs.Sizes.{byte_values, addresses, whole_words}
 use Rattle.bus.specs.Meaning.{Place, Cell, Nothing, Meaning}
@@ -8,6 +8,10 @@ use Rattle.bus.specs.Loans.{Loan}
 -- How many of `n` lent bytes are cells: at most 65,536, and an even number of them.
 abbrev pub flat_size : ℕ → ℕ
 flat_size n = whole_words addresses n
+
+-- Which of the lent bytes are cells: the first of them.
+abbrev pub flat_cells : List ℕ → List ℕ
+flat_cells bytes = take (flat_size (length bytes)) bytes
 
 -- What stands at `k`: a cell while the cells last, then nothing.
 abbrev pub flat_place : List ℕ → ℕ → Place

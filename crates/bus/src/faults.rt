@@ -2,32 +2,23 @@
 ghost use Rattle.std.specs.Prelude.{◌≡◌};
 ghost use Rattle.bus.specs.Calls.{fault_number};
 
-// The refusals of a bus, in the order in which a call asks.
+// The refusals of a bus by their numbers, in the order in which a call asks.
 #[derive(Clone, Copy, PartialEq, Eq, Debug)]
 pub enum BusFault {
-    OddAddress,
-    NothingThere,
-    ByteAtPort,
-    WrongWay,
-    NoneWaiting,
-    NoRoom,
-    WaitingFull,
-    NoneSent,
+    OddAddress = 30,
+    NothingThere = 31,
+    ByteAtPort = 32,
+    WrongWay = 33,
+    NoneWaiting = 34,
+    NoRoom = 35,
+    WaitingFull = 36,
+    NoneSent = 37,
 }
 
 impl BusFault {
     pub fn number(self) -> u8
         ensures { result ≡ fault_number self }
     {
-        match self {
-            BusFault::OddAddress => 30,
-            BusFault::NothingThere => 31,
-            BusFault::ByteAtPort => 32,
-            BusFault::WrongWay => 33,
-            BusFault::NoneWaiting => 34,
-            BusFault::NoRoom => 35,
-            BusFault::WaitingFull => 36,
-            BusFault::NoneSent => 37,
-        }
+        self as u8
     }
 }

@@ -3,8 +3,8 @@ ghost use Rattle.std.specs.Prelude.{◌≡◌, ℕ, ◌<◌, List, [], ◌∷◌
 ghost use Rattle.bus.specs.Meaning.{Meaning, Facts, Cell};
 ghost use Rattle.bus.specs.Calls.{Comes, Byte, Word, with_place, peek, load_byte, load_word, store_byte, store_word, give, take};
 ghost use Rattle.bus.specs.Stores.{Store, accepted};
-ghost use Rattle.bus.specs.Loans.{Loan};
-ghost use Rattle.bus.specs.Flats.{flat, flat_size, flat_loans};
+ghost use Rattle.bus.specs.Kept.{Kept};
+ghost use Rattle.bus.specs.Flats.{flat, flat_size, flat_cells, flat_loans};
 ghost use Rattle.bus.specs.Shown.{flat_facts};
 
 use crate::Bus;
@@ -27,12 +27,12 @@ impl<'a> Flat<'a> {
         Flat { bytes }
     }
 
-    // How many of the bytes are cells.
-    fn size(&self) -> usize
-        ensures { result ≡ flat_size (length self.now.bytes.now) }
+    // The bytes that are cells.
+    fn cells(&self) -> &[u8]
+        ensures { result.now ≡ flat_cells self.now.bytes.now }
     {
         let n = self.bytes.len();
-        if ADDRESSES < n { ADDRESSES } else { n / 2 * 2 }
+        &self.bytes[..ADDRESSES.min(n / 2 * 2)]
     }
 
     // Puts `b` into the cell `i`.
@@ -51,9 +51,7 @@ impl<'a> Bus for Flat<'a> {
 
     ghost facts = { λ s. flat_facts s.bytes.now };
 
-    ghost lent = { λ s. flat_loans s.bytes.ghost_name s.bytes.now };
-
-    ghost hidden = { λ _. [] };
+    ghost kept = { λ s. record { lent = flat_loans s.bytes.ghost_name s.bytes.now; hidden = [] } };
 
     ghost stored = { λ _ _ _. Unit {0} };
 
@@ -62,20 +60,11 @@ impl<'a> Bus for Flat<'a> {
     ghost further = { λ _ _ _ _ _ _ _. tt };
 
     fn peek(&self, a: u16) -> Option<u8> {
-        let i = usize::from(a);
-        if i < self.size() {
-            let b = self.bytes[i];
-            Some(b)
-        } else {
-            None
-        }
+        self.cells().get(usize::from(a)).copied()
     }
 
     fn load_byte(&mut self, a: u16) -> Result<u8, BusFault> {
-        match self.peek(a) {
-            Some(b) => Ok(b),
-            None => Err(BusFault::NothingThere),
-        }
+        self.peek(a).ok_or(BusFault::NothingThere)
     }
 
     fn load_word(&mut self, a: u16) -> Result<u16, BusFault> {
@@ -83,8 +72,9 @@ impl<'a> Bus for Flat<'a> {
         if i % 2 != 0 {
             return Err(BusFault::OddAddress);
         }
-        if i < self.size() {
-            Ok(256 * u16::from(self.bytes[i]) + u16::from(self.bytes[i + 1]))
+        let cells = self.cells();
+        if i < cells.len() {
+            Ok(u16::from_be_bytes([cells[i], cells[i + 1]]))
         } else {
             Err(BusFault::NothingThere)
         }
@@ -92,12 +82,11 @@ impl<'a> Bus for Flat<'a> {
 
     fn store_byte(&mut self, a: u16, b: u8) -> Result<(), BusFault> {
         let i = usize::from(a);
-        if i < self.size() {
-            self.write(i, b);
-            Ok(())
-        } else {
-            Err(BusFault::NothingThere)
+        if self.cells().len() <= i {
+            return Err(BusFault::NothingThere);
         }
+        self.write(i, b);
+        Ok(())
     }
 
     fn store_word(&mut self, a: u16, v: u16) -> Result<(), BusFault> {
@@ -105,13 +94,13 @@ impl<'a> Bus for Flat<'a> {
         if i % 2 != 0 {
             return Err(BusFault::OddAddress);
         }
-        if i < self.size() {
-            self.write(i, (v / 256) as u8);
-            self.write(i + 1, (v % 256) as u8);
-            Ok(())
-        } else {
-            Err(BusFault::NothingThere)
+        if self.cells().len() <= i {
+            return Err(BusFault::NothingThere);
         }
+        let [high, low] = v.to_be_bytes();
+        self.write(i, high);
+        self.write(i + 1, low);
+        Ok(())
     }
 
     // No byte can wait here.
