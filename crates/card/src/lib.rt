@@ -1,11 +1,11 @@
 // The program card: fixed cells from address 0 over any bus.
 #![tactic(auto)]
 
-ghost use Rattle.std.specs.Prelude.{◌≡◌, ℕ, ◌+◌, ◌%◌, ◌<◌, ◌≤◌, List, [], ◌∷◌, ◌++◌, length, if◌then◌else◌, Some, None, nat_lt, slice_index};
+ghost use Rattle.std.specs.Prelude.{◌≡◌, ◌%◌, List, [], ◌∷◌, ◌++◌, length, if◌then◌else◌, Some, None, nat_lt, slice_index};
 ghost use Rattle.bus.specs.Meaning.{Meaning, Facts};
-ghost use Rattle.bus.specs.Calls.{Comes, Byte, Word, word_of, peek, load_byte, load_word, store_byte, store_word, give, take};
+ghost use Rattle.bus.specs.Calls.{Comes, Byte, Word, peek, load_byte, load_word, store_byte, store_word, give, take};
 ghost use Rattle.bus.specs.Stores.{Store, accepted};
-ghost use Rattle.bus.specs.Loans.{Loan};
+ghost use Rattle.bus.specs.Kept.{Kept, hiding};
 ghost use Rattle.card.specs.Cards.{fill, fill_number, on_card, card, card_hides};
 ghost use Rattle.card.specs.CardShown.{card_facts};
 
@@ -14,16 +14,14 @@ use bus::{Bus, BusFault};
 // Filling is no call on a bus, so its refusal is a type of its own: a board never meets it.
 #[derive(Clone, Copy, PartialEq, Eq, Debug)]
 pub enum FillFault {
-    WrongLength,
+    WrongLength = 38,
 }
 
 impl FillFault {
     pub fn number(self) -> u8
         ensures { result ≡ fill_number self }
     {
-        match self {
-            FillFault::WrongLength => 38,
-        }
+        self as u8
     }
 }
 
@@ -31,6 +29,7 @@ impl FillFault {
 const CARD_MOST: usize = 4096;
 
 // A card that lies over no bus yet, and so can still be filled.
+// Stays: bytes with a count, since a card is `Copy` and no `ArrayVec` is, and a call that moves a card over lent memory into a layer has no proof with a bound in a ghost field.
 #[derive(Clone, Copy)]
 pub struct ProgramCard {
     bytes: [u8; CARD_MOST],
@@ -55,57 +54,32 @@ impl ProgramCard {
         if n % 2 != 0 || CARD_MOST < n {
             return Err(FillFault::WrongLength);
         }
-        self.hold(bytes);
+        self.bytes[..n].copy_from_slice(bytes);
+        self.count = n;
         Ok(())
     }
 
-    // Puts bytes on the card that it has room for.
-    fn hold(&mut self, bytes: &[u8])
-        requires { (length bytes.now % 2 ≡ 0) × (length bytes.now ≤ 4096) }
-        ensures { on_card self.new ≡ bytes.now }
+    // The bytes on the card.
+    fn held(&self) -> &[u8]
+        ensures { result.now ≡ on_card self.now }
     {
-        let n = bytes.len();
-        self.bytes[0..n].copy_from_slice(bytes);
-        self.count = n;
+        &self.bytes[..CARD_MOST.min(self.count / 2 * 2)]
     }
 
-    // How many bytes are on the card.
-    fn size(&self) -> usize
-        ensures exact { result ≡ length (on_card self.now) }
-        ensures whole { result % 2 ≡ 0 }
-        ensures within { result ≤ 4096 }
+    // Does the card reach as far as `a`?
+    fn reaches(&self, a: u16) -> bool
+        ensures { result ≡ nat_lt a (length (on_card self.now)) }
     {
-        if CARD_MOST < self.count {
-            CARD_MOST
-        } else {
-            self.count / 2 * 2
-        }
-    }
-
-    // The word on the card at `a`, which it reaches.
-    fn word_at(&self, a: u16) -> u16
-        requires { a + 1 < length (on_card self.now) }
-        ensures { result ≡ word_of (slice_index (on_card self.now) a % 256) (slice_index (on_card self.now) (a + 1) % 256) }
-    {
-        let i = usize::from(a);
-        256 * u16::from(self.bytes[i]) + u16::from(self.bytes[i + 1])
+        usize::from(a) < self.held().len()
     }
 
     // The byte on the card at `a`, if it reaches that far.
     fn byte_at(&self, a: u16) -> Option<u8>
         ensures { result ≡ (if nat_lt a (length (on_card self.now)) then Some (slice_index (on_card self.now) a % 256) else None) }
     {
-        let i = usize::from(a);
-        if i < self.size() {
-            let b = self.bytes[i];
-            Some(b)
-        } else {
-            None
-        }
+        self.held().get(usize::from(a)).copied()
     }
-}
 
-impl ProgramCard {
     // Lays the card over a bus; from then on it cannot be filled.
     pub fn over<B: Bus + Drop>(self, below: B) -> Card<B>
         ensures { result ≡ record { card = self; below = below } }
@@ -136,9 +110,7 @@ impl<B: Bus + Drop> Bus for Card<B> {
 
     ghost facts = { λ s. card_facts s.card (B.Bus.meaning s.below) (B.Bus.facts s.below) };
 
-    ghost lent = { λ s. B.Bus.lent s.below };
-
-    ghost hidden = { λ s. card_hides (on_card s.card) (B.Bus.meaning s.below) ∷ B.Bus.hidden s.below };
+    ghost kept = { λ s. hiding (card_hides (on_card s.card) (B.Bus.meaning s.below)) (B.Bus.kept s.below) };
 
     ghost stored = { λ _ _ _. Unit {0} };
 
@@ -147,10 +119,7 @@ impl<B: Bus + Drop> Bus for Card<B> {
     ghost further = { λ _ _ _ _ _ _ _. tt };
 
     fn peek(&self, a: u16) -> Option<u8> {
-        match self.card.byte_at(a) {
-            Some(b) => Some(b),
-            None => self.below.peek(a),
-        }
+        self.card.byte_at(a).or_else(|| self.below.peek(a))
     }
 
     fn load_byte(&mut self, a: u16) -> Result<u8, BusFault> {
@@ -161,24 +130,26 @@ impl<B: Bus + Drop> Bus for Card<B> {
     }
 
     fn load_word(&mut self, a: u16) -> Result<u16, BusFault> {
-        if self.card.size() <= usize::from(a) {
+        if !self.card.reaches(a) {
             return self.below.load_word(a);
         }
         if a % 2 != 0 {
             return Err(BusFault::OddAddress);
         }
-        Ok(self.card.word_at(a))
+        let i = usize::from(a);
+        let held = self.card.held();
+        Ok(u16::from_be_bytes([held[i], held[i + 1]]))
     }
 
     fn store_byte(&mut self, a: u16, b: u8) -> Result<(), BusFault> {
-        if usize::from(a) < self.card.size() {
+        if self.card.reaches(a) {
             return Err(BusFault::WrongWay);
         }
         self.below.store_byte(a, b)
     }
 
     fn store_word(&mut self, a: u16, v: u16) -> Result<(), BusFault> {
-        if self.card.size() <= usize::from(a) {
+        if !self.card.reaches(a) {
             return self.below.store_word(a, v);
         }
         match a % 2 {
