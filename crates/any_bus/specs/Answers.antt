@@ -6,22 +6,22 @@ use Rattle.bus.specs.Stores.{Store, accepted}
 use Rattle.bus.specs.declared.faults.BusFault.{BusFault}
 use Rattle.any_bus.specs.declared.calls.BusCall.{BusCall}
 use Rattle.any_bus.specs.declared.calls.BusCall.TheVariants.{Peek, LoadByte, LoadWord, StoreByte, StoreWord, Give, Take}
-use Rattle.any_bus.specs.declared.calls.BusAnswer.{BusAnswer}
-use Rattle.any_bus.specs.declared.calls.BusAnswer.TheVariants.{Seen, Loaded, Taken, Done, Refused}
+use Rattle.any_bus.specs.declared.calls.BusReply.{BusReply}
+use Rattle.any_bus.specs.declared.calls.BusReply.TheVariants.{Seen, Loaded, Taken, Done}
 
--- An answer and the bus after it.
+-- An answer, a reply or a refusal, and the bus after it.
 pub record Told : Type 0 where
-  pub answer : BusAnswer
+  pub answer : Result BusReply BusFault
   pub after : Meaning
 
 -- What is told of an outcome: its value by `say`, or its refusal, which changes nothing.
-abbrev pub told : {Value : Type 0} → (Value → BusAnswer) → Meaning → OnBus Value → Told
-told say m (Ok (v, n)) = record { answer = say v; after = n }
-told say m (Err f) = record { answer = Refused f; after = m }
+abbrev pub told : {Value : Type 0} → (Value → BusReply) → Meaning → OnBus Value → Told
+told say m (Ok (v, n)) = record { answer = Ok (say v); after = n }
+told say m (Err f) = record { answer = Err f; after = m }
 
 -- The answer of a bus to each call.
 abbrev pub answered : BusCall → Meaning → Told
-answered (Peek a) m = record { answer = Seen (peek m a); after = m }
+answered (Peek a) m = record { answer = Ok (Seen (peek m a)); after = m }
 answered (LoadByte a) m = told (λ v. Loaded v) m (load_byte m a)
 answered (LoadWord a) m = told (λ v. Loaded v) m (load_word m a)
 answered (StoreByte a b) m = told (λ _. Done) m (store_byte m a b)

@@ -4,4 +4,4 @@
 pub mod calls;
 pub mod read_back;
 
-pub use calls::{BusAnswer, BusCall, answer};
+pub use calls::{BusCall, BusReply, answer};

@@ -12,8 +12,7 @@ use bus::{Bus, BusFault, Flat};
 pub fn store_and_load_byte<B: Bus>(bus: &mut B, a: u16, b: u8) -> Result<u8, BusFault>
     ensures back { kind ((B.Bus.meaning bus.old).place a) ≡ Cells → result ≡ Ok b }
     ensures comes { Then (store_byte (B.Bus.meaning bus.old) a b) (B.Bus.meaning bus.old) (λ m. load_byte m a) result (B.Bus.meaning bus.new) }
-    ensures keeps { B.Bus.lent bus.new ≡ B.Bus.lent bus.old }
-    ensures hides { B.Bus.hidden bus.new ≡ B.Bus.hidden bus.old }
+    ensures keeps { B.Bus.kept bus.new ≡ B.Bus.kept bus.old }
     ensures stores { B.Bus.stored bus.old (accepted (value_of (store_byte (B.Bus.meaning bus.old) a b)) a b Byte) bus.new }
 {
     bus.store_byte(a, b)?;
@@ -24,8 +23,7 @@ pub fn store_and_load_byte<B: Bus>(bus: &mut B, a: u16, b: u8) -> Result<u8, Bus
 pub fn store_and_load_word<B: Bus>(bus: &mut B, a: u16, v: u16) -> Result<u16, BusFault>
     ensures back { a % 2 ≡ 0 → kind ((B.Bus.meaning bus.old).place a) ≡ Cells → result ≡ Ok v }
     ensures comes { Then (store_word (B.Bus.meaning bus.old) a v) (B.Bus.meaning bus.old) (λ m. load_word m a) result (B.Bus.meaning bus.new) }
-    ensures keeps { B.Bus.lent bus.new ≡ B.Bus.lent bus.old }
-    ensures hides { B.Bus.hidden bus.new ≡ B.Bus.hidden bus.old }
+    ensures keeps { B.Bus.kept bus.new ≡ B.Bus.kept bus.old }
     ensures stores { B.Bus.stored bus.old (accepted (value_of (store_word (B.Bus.meaning bus.old) a v)) a v Word) bus.new }
 {
     bus.store_word(a, v)?;

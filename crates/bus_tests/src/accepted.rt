@@ -1,7 +1,7 @@
 // One accepted call of each kind.
 use crate::script::{check_calls, check_filled, check_noted};
-use any_bus::BusAnswer::*;
 use any_bus::BusCall::*;
+use any_bus::BusReply::*;
 use any_bus::read_back::{store_and_load_byte, store_and_load_in, store_and_load_word};
 use bus::{BusFault, Flat};
 use card::ProgramCard;
@@ -15,11 +15,11 @@ fn flat_memory(rt: HostRuntime) {
         &rt,
         &mut Flat::new(&mut bytes),
         &[
-            (Peek(3), Seen(Some(4))),
-            (LoadByte(0), Loaded(1)),
-            (LoadWord(2), Loaded(0x0304)),
-            (StoreByte(1, 9), Done),
-            (StoreWord(2, 0xABCD), Done),
+            (Peek(3), Ok(Seen(Some(4)))),
+            (LoadByte(0), Ok(Loaded(1))),
+            (LoadWord(2), Ok(Loaded(0x0304))),
+            (StoreByte(1, 9), Ok(Done)),
+            (StoreWord(2, 0xABCD), Ok(Done)),
         ],
     );
     assert_eq!(rt;
@@ -39,25 +39,25 @@ fn card_over_memory(rt: HostRuntime) {
         &rt,
         &mut bus,
         &[
-            (Peek(1), Seen(Some(2))),
-            (LoadByte(0), Loaded(1)),
-            (LoadWord(0), Loaded(0x0102)),
+            (Peek(1), Ok(Seen(Some(2)))),
+            (LoadByte(0), Ok(Loaded(1))),
+            (LoadWord(0), Ok(Loaded(0x0102))),
         ],
     );
     check_calls(
         &rt,
         &mut bus,
         &[
-            (StoreByte(2, 9), Done),
-            (StoreWord(2, 0x0A0B), Done),
-            (LoadWord(2), Loaded(0x0A0B)),
+            (StoreByte(2, 9), Ok(Done)),
+            (StoreWord(2, 0x0A0B), Ok(Done)),
+            (LoadWord(2), Ok(Loaded(0x0A0B))),
         ],
     );
     let mut below = bus.into_below();
     check_noted(
         &rt,
         &mut below,
-        &[(LoadWord(0), Loaded(0x0506))],
+        &[(LoadWord(0), Ok(Loaded(0x0506)))],
         "what lies under the card",
     );
 }
@@ -70,10 +70,10 @@ fn console_over_memory(rt: HostRuntime) {
         &rt,
         &mut bus,
         &[
-            (Give(0xFF), Done),
-            (Give(2), Done),
-            (LoadWord(0xF004), Loaded(0xFF)),
-            (LoadWord(0xF004), Loaded(2)),
+            (Give(0xFF), Ok(Done)),
+            (Give(2), Ok(Done)),
+            (LoadWord(0xF004), Ok(Loaded(0xFF))),
+            (LoadWord(0xF004), Ok(Loaded(2))),
         ],
     );
     // of a character only the low byte is sent
@@ -81,23 +81,23 @@ fn console_over_memory(rt: HostRuntime) {
         &rt,
         &mut bus,
         &[
-            (StoreWord(0xF000, 0x1241), Done),
-            (Take, Taken(0x41)),
-            (Peek(1), Seen(Some(6))),
+            (StoreWord(0xF000, 0x1241), Ok(Done)),
+            (Take, Ok(Taken(0x41))),
+            (Peek(1), Ok(Seen(Some(6)))),
         ],
     );
     let mut below = bus.into_below();
-    check_calls(&rt, &mut below, &[(LoadByte(0), Loaded(5))]);
+    check_calls(&rt, &mut below, &[(LoadByte(0), Ok(Loaded(5)))]);
 }
 
 // What the number port sends for `v`.
 fn check_text(rt: &impl Abort, v: u16, text: &[u8]) {
     let mut bus = Console::new(Flat::new(&mut []));
-    check_calls(rt, &mut bus, &[(StoreWord(0xF002, v), Done)]);
+    check_calls(rt, &mut bus, &[(StoreWord(0xF002, v), Ok(Done))]);
     for b in text {
-        check_calls(rt, &mut bus, &[(Take, Taken(*b))]);
+        check_calls(rt, &mut bus, &[(Take, Ok(Taken(*b)))]);
     }
-    check_calls(rt, &mut bus, &[(Take, Refused(BusFault::NoneSent))]);
+    check_calls(rt, &mut bus, &[(Take, Err(BusFault::NoneSent))]);
 }
 
 #[test]

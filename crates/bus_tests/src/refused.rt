@@ -1,7 +1,7 @@
 // One example for each refusal.
 use crate::script::{check_calls, check_filled, check_number, check_repeated};
-use any_bus::BusAnswer::*;
 use any_bus::BusCall::*;
+use any_bus::BusReply::*;
 use bus::{BusFault, Flat};
 use card::{FillFault, ProgramCard};
 use console::Console;
@@ -15,8 +15,8 @@ fn odd_address_30(rt: HostRuntime) {
         &rt,
         &mut Flat::new(&mut bytes),
         &[
-            (LoadWord(1), Refused(BusFault::OddAddress)),
-            (StoreWord(9, 0), Refused(BusFault::OddAddress)),
+            (LoadWord(1), Err(BusFault::OddAddress)),
+            (StoreWord(9, 0), Err(BusFault::OddAddress)),
         ],
     );
 }
@@ -30,8 +30,8 @@ fn nothing_there_31(rt: HostRuntime) {
         &rt,
         &mut Flat::new(&mut bytes),
         &[
-            (LoadByte(4), Refused(BusFault::NothingThere)),
-            (StoreWord(4, 1), Refused(BusFault::NothingThere)),
+            (LoadByte(4), Err(BusFault::NothingThere)),
+            (StoreWord(4, 1), Err(BusFault::NothingThere)),
         ],
     );
 }
@@ -45,8 +45,8 @@ fn byte_at_port_32(rt: HostRuntime) {
         &rt,
         &mut console,
         &[
-            (LoadByte(0xF005), Refused(BusFault::ByteAtPort)),
-            (StoreByte(0xF004, 1), Refused(BusFault::ByteAtPort)),
+            (LoadByte(0xF005), Err(BusFault::ByteAtPort)),
+            (StoreByte(0xF004, 1), Err(BusFault::ByteAtPort)),
         ],
     );
 }
@@ -57,7 +57,7 @@ fn wrong_way_33(rt: HostRuntime) {
     let mut card = ProgramCard::new();
     check_filled(&rt, &mut card, &[1, 2], Ok(()));
     let mut bus = card.over(Console::new(Flat::new(&mut [])));
-    let no = Refused(BusFault::WrongWay);
+    let no = Err(BusFault::WrongWay);
     check_calls(
         &rt,
         &mut bus,
@@ -75,7 +75,7 @@ fn none_waiting_34(rt: HostRuntime) {
     check_calls(
         &rt,
         &mut Console::new(Flat::new(&mut [])),
-        &[(LoadWord(0xF004), Refused(BusFault::NoneWaiting))],
+        &[(LoadWord(0xF004), Err(BusFault::NoneWaiting))],
     );
 }
 
@@ -83,15 +83,15 @@ fn none_waiting_34(rt: HostRuntime) {
 fn no_room_35(rt: HostRuntime) {
     check_number(&rt, BusFault::NoRoom, 35);
     let mut console = Console::new(Flat::new(&mut []));
-    check_repeated(&rt, &mut console, 1019, StoreWord(0xF000, 0x2A), Done);
+    check_repeated(&rt, &mut console, 1019, StoreWord(0xF000, 0x2A), Ok(Done));
     // five bytes are left: -32768 has six, 32767 has five
-    let no = Refused(BusFault::NoRoom);
+    let no = Err(BusFault::NoRoom);
     check_calls(
         &rt,
         &mut console,
         &[
             (StoreWord(0xF002, 0x8000), no),
-            (StoreWord(0xF002, 32767), Done),
+            (StoreWord(0xF002, 32767), Ok(Done)),
             (StoreWord(0xF000, 1), no),
         ],
     );
@@ -101,12 +101,8 @@ fn no_room_35(rt: HostRuntime) {
 fn waiting_full_36(rt: HostRuntime) {
     check_number(&rt, BusFault::WaitingFull, 36);
     let mut console = Console::new(Flat::new(&mut []));
-    check_repeated(&rt, &mut console, 256, Give(1), Done);
-    check_calls(
-        &rt,
-        &mut console,
-        &[(Give(1), Refused(BusFault::WaitingFull))],
-    );
+    check_repeated(&rt, &mut console, 256, Give(1), Ok(Done));
+    check_calls(&rt, &mut console, &[(Give(1), Err(BusFault::WaitingFull))]);
 }
 
 #[test]
@@ -115,7 +111,7 @@ fn none_sent_37(rt: HostRuntime) {
     check_calls(
         &rt,
         &mut Console::new(Flat::new(&mut [])),
-        &[(Take, Refused(BusFault::NoneSent))],
+        &[(Take, Err(BusFault::NoneSent))],
     );
 }
 
@@ -130,6 +126,6 @@ fn wrong_length_38(rt: HostRuntime) {
     check_calls(
         &rt,
         &mut card.over(Flat::new(&mut [])),
-        &[(Peek(1), Seen(Some(8))), (Peek(2), Seen(None))],
+        &[(Peek(1), Ok(Seen(Some(8)))), (Peek(2), Ok(Seen(None)))],
     );
 }

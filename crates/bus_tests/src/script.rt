@@ -1,11 +1,15 @@
 // Calls with the answers that they must get.
-use any_bus::{BusAnswer, BusCall, answer};
+use any_bus::{BusCall, BusReply, answer};
 use bus::{Bus, BusFault};
 use card::{FillFault, ProgramCard};
 use std::process::Abort;
 
 // Sends each call in turn.
-pub fn check_calls<B: Bus>(rt: &impl Abort, bus: &mut B, script: &[(BusCall, BusAnswer)]) {
+pub fn check_calls<B: Bus>(
+    rt: &impl Abort,
+    bus: &mut B,
+    script: &[(BusCall, Result<BusReply, BusFault>)],
+) {
     check_noted(rt, bus, script, "an answer");
 }
 
@@ -13,7 +17,7 @@ pub fn check_calls<B: Bus>(rt: &impl Abort, bus: &mut B, script: &[(BusCall, Bus
 pub fn check_noted<B: Bus>(
     rt: &impl Abort,
     bus: &mut B,
-    script: &[(BusCall, BusAnswer)],
+    script: &[(BusCall, Result<BusReply, BusFault>)],
     note: &str,
 ) {
     for (call, said) in script {
@@ -27,7 +31,7 @@ pub fn check_repeated<B: Bus>(
     bus: &mut B,
     times: u16,
     call: BusCall,
-    said: BusAnswer,
+    said: Result<BusReply, BusFault>,
 ) {
     for _ in 0..times {
         assert_eq!(rt; answer(bus, call), said);

@@ -1,7 +1,7 @@
 // What a bus hides of the bus below it.
 use crate::script::{check_calls, check_filled, check_noted};
-use any_bus::BusAnswer::*;
 use any_bus::BusCall::*;
+use any_bus::BusReply::*;
 use bus::{BusFault, Flat};
 use card::ProgramCard;
 use console::Console;
@@ -12,30 +12,30 @@ fn console_over_console(rt: HostRuntime) {
     check_calls(
         &rt,
         &mut lower,
-        &[(Give(1), Done), (StoreWord(0xF000, 2), Done)],
+        &[(Give(1), Ok(Done)), (StoreWord(0xF000, 2), Ok(Done))],
     );
     let mut upper = Console::new(lower);
     check_calls(
         &rt,
         &mut upper,
         &[
-            (LoadWord(0xF004), Refused(BusFault::NoneWaiting)),
-            (Take, Refused(BusFault::NoneSent)),
+            (LoadWord(0xF004), Err(BusFault::NoneWaiting)),
+            (Take, Err(BusFault::NoneSent)),
         ],
     );
     check_calls(
         &rt,
         &mut upper,
-        &[(Give(3), Done), (StoreWord(0xF000, 4), Done)],
+        &[(Give(3), Ok(Done)), (StoreWord(0xF000, 4), Ok(Done))],
     );
     let mut lower = upper.into_below();
     check_noted(
         &rt,
         &mut lower,
         &[
-            (LoadWord(0xF004), Loaded(1)),
-            (Take, Taken(2)),
-            (Take, Refused(BusFault::NoneSent)),
+            (LoadWord(0xF004), Ok(Loaded(1))),
+            (Take, Ok(Taken(2))),
+            (Take, Err(BusFault::NoneSent)),
         ],
         "what was hidden is as it was",
     );
@@ -51,10 +51,10 @@ fn card_over_console(rt: HostRuntime) {
         &rt,
         &mut bus,
         &[
-            (Give(9), Done),
-            (LoadWord(0xF004), Loaded(9)),
-            (LoadWord(0), Loaded(0x0102)),
-            (LoadWord(2), Loaded(0x0708)),
+            (Give(9), Ok(Done)),
+            (LoadWord(0xF004), Ok(Loaded(9))),
+            (LoadWord(0), Ok(Loaded(0x0102))),
+            (LoadWord(2), Ok(Loaded(0x0708))),
         ],
     );
 }
@@ -70,10 +70,10 @@ fn console_over_card(rt: HostRuntime) {
         &rt,
         &mut bus,
         &[
-            (StoreWord(0, 7), Refused(BusFault::WrongWay)),
-            (Peek(0xF001), Seen(None)),
-            (StoreByte(0xF006, 7), Done),
-            (LoadByte(0xEFFF), Loaded(0)),
+            (StoreWord(0, 7), Err(BusFault::WrongWay)),
+            (Peek(0xF001), Ok(Seen(None))),
+            (StoreByte(0xF006, 7), Ok(Done)),
+            (LoadByte(0xEFFF), Ok(Loaded(0))),
         ],
     );
 }

@@ -1,3 +1,2 @@
-pub mod Rings
-pub mod Numbers
 pub mod ConsoleCalls
+pub mod Queues

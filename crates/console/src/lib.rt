@@ -6,20 +6,19 @@ ghost use Rattle.bus.specs.declared.faults.BusFault.TheVariants.{ByteAtPort, Not
 ghost use Rattle.bus.specs.Meaning.{Meaning, Facts};
 ghost use Rattle.bus.specs.Calls.{Comes, Byte, Word, peek, load_byte, load_word, store_byte, store_word, give, take};
 ghost use Rattle.bus.specs.Stores.{Store, accepted};
-ghost use Rattle.bus.specs.Loans.{Loan};
-ghost use Rattle.console.specs.Rings.{items};
-ghost use Rattle.console.specs.Consoles.{console, console_hides, at_port};
-ghost use Rattle.console.specs.ConsoleShown.{items_bytes, console_facts};
+ghost use Rattle.bus.specs.Kept.{Kept, hiding};
+ghost use Rattle.console.specs.Consoles.{console, console_hides, at_port, bytes_in, added};
+ghost use Rattle.console.specs.ConsoleShown.{all_bytes, console_facts};
 
-mod number_text;
-mod queue;
-
-use crate::number_text::{SENT_MOST, send_byte, send_number};
-use crate::queue::Queue;
+use arrayvec::ArrayVec;
 use bus::{Bus, BusFault};
+use itoa::Buffer;
 
 // The most bytes that wait at a console.
 const WAITING_MOST: usize = 256;
+
+// The most sent bytes that stand at a console.
+const SENT_MOST: usize = 1024;
 
 // Where the ports stand; each takes one word.
 const CHARACTER_PORT: u16 = 0xF000;
@@ -31,8 +30,8 @@ const INPUT_PORT: u16 = 0xF004;
 #[derive(Drop)]
 pub struct Console<B: Bus + Drop> {
     below: B,
-    waiting: Queue<WAITING_MOST>,
-    sent: Queue<SENT_MOST>,
+    waiting: ArrayVec<u8, WAITING_MOST>,
+    sent: ArrayVec<u8, SENT_MOST>,
 }
 
 // Does one of the console's ports cover `a`?
@@ -52,16 +51,24 @@ fn no_byte(a: u16) -> BusFault
     }
 }
 
+// Sends a text, all of it or, where it does not fit, nothing.
+fn send(sent: &mut ArrayVec<u8, SENT_MOST>, text: &[u8]) -> Result<(), BusFault>
+    ensures { Comes (added 1024 (bytes_in sent.old) text.now) (bytes_in sent.old) result (bytes_in sent.new) }
+{
+    sent.try_extend_from_slice(text)
+        .map_err(|_| BusFault::NoRoom)
+}
+
 impl<B: Bus + Drop> Console<B> {
     // Nothing waits at a new console, and nothing was sent.
     pub fn new(below: B) -> Console<B>
         ensures under { result.below ≡ below }
-        ensures quiet { (items result.waiting ≡ []) × (items result.sent ≡ []) }
+        ensures quiet { (bytes_in result.waiting ≡ []) × (bytes_in result.sent ≡ []) }
     {
         Console {
             below,
-            waiting: Queue::new(),
-            sent: Queue::new(),
+            waiting: ArrayVec::new(),
+            sent: ArrayVec::new(),
         }
     }
 
@@ -79,13 +86,11 @@ impl<B: Bus + Drop> Console<B> {
 }
 
 impl<B: Bus + Drop> Bus for Console<B> {
-    ghost meaning = { λ s. console (items s.waiting) (items s.sent) (B.Bus.meaning s.below) };
+    ghost meaning = { λ s. console (bytes_in s.waiting) (bytes_in s.sent) (B.Bus.meaning s.below) };
 
-    ghost facts = { λ s. console_facts (items s.waiting) (items s.sent) (B.Bus.meaning s.below) (items_bytes s.waiting) (items_bytes s.sent) (B.Bus.facts s.below) };
+    ghost facts = { λ s. console_facts (bytes_in s.waiting) (bytes_in s.sent) (B.Bus.meaning s.below) (all_bytes s.waiting) (all_bytes s.sent) (B.Bus.facts s.below) };
 
-    ghost lent = { λ s. B.Bus.lent s.below };
-
-    ghost hidden = { λ s. console_hides (B.Bus.meaning s.below) ∷ B.Bus.hidden s.below };
+    ghost kept = { λ s. hiding (console_hides (B.Bus.meaning s.below)) (B.Bus.kept s.below) };
 
     ghost stored = { λ _ _ _. Unit {0} };
 
@@ -98,10 +103,7 @@ impl<B: Bus + Drop> Bus for Console<B> {
     }
 
     fn load_byte(&mut self, a: u16) -> Result<u8, BusFault> {
-        match self.peek(a) {
-            Some(b) => Ok(b),
-            None => Err(no_byte(a)),
-        }
+        self.peek(a).ok_or(no_byte(a))
     }
 
     fn load_word(&mut self, a: u16) -> Result<u16, BusFault> {
@@ -110,10 +112,10 @@ impl<B: Bus + Drop> Bus for Console<B> {
         }
         match a {
             CHARACTER_PORT | NUMBER_PORT => Err(BusFault::WrongWay),
-            INPUT_PORT => match self.waiting.pop() {
-                Some(b) => Ok(u16::from(b)),
-                None => Err(BusFault::NoneWaiting),
-            },
+            INPUT_PORT => {
+                let oldest = self.waiting.pop_at(0).ok_or(BusFault::NoneWaiting)?;
+                Ok(u16::from(oldest))
+            }
             _ => match self.below.peek(a) {
                 Some(_) => self.below.load_word(a),
                 None => Err(BusFault::NothingThere),
@@ -133,8 +135,11 @@ impl<B: Bus + Drop> Bus for Console<B> {
             return Err(BusFault::OddAddress);
         }
         match a {
-            CHARACTER_PORT => send_byte(&mut self.sent, (v % 256) as u8),
-            NUMBER_PORT => send_number(&mut self.sent, v),
+            CHARACTER_PORT => send(&mut self.sent, &[v.to_be_bytes()[1]]),
+            NUMBER_PORT => {
+                let mut digits = Buffer::new();
+                send(&mut self.sent, digits.format(v.cast_signed()).as_bytes())
+            }
             INPUT_PORT => Err(BusFault::WrongWay),
             _ => match self.below.peek(a) {
                 Some(_) => self.below.store_word(a, v),
@@ -144,17 +149,10 @@ impl<B: Bus + Drop> Bus for Console<B> {
     }
 
     fn give(&mut self, b: u8) -> Result<(), BusFault> {
-        if WAITING_MOST <= self.waiting.len() {
-            return Err(BusFault::WaitingFull);
-        }
-        self.waiting.push(b);
-        Ok(())
+        self.waiting.try_push(b).map_err(|_| BusFault::WaitingFull)
     }
 
     fn take(&mut self) -> Result<u8, BusFault> {
-        match self.sent.pop() {
-            Some(b) => Ok(b),
-            None => Err(BusFault::NoneSent),
-        }
+        self.sent.pop_at(0).ok_or(BusFault::NoneSent)
     }
 }

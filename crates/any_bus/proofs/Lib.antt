@@ -1,2 +1,0 @@
-pub mod KindsStay
-pub mod ReadBack
