@@ -1,2 +1,1 @@
-pub mod ConsoleCalls
 pub mod Queues

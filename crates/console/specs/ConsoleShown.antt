@@ -1,8 +1,7 @@
 -- Nothing of what a console is stands here, only the evidence that it hands over as a bus: that its meaning keeps the facts of every bus.
-use Rattle.std.specs.Prelude.{◌≡◌, ℕ, zero, suc, ◌+◌, ◌%◌, ◌≤◌, cond, List, [], ◌∷◌, map, ◌==◌, refl}
+use Rattle.std.specs.Prelude.{◌≡◌, ℕ, ◌+◌, ◌%◌, ◌≤◌, cond, List, [], ◌∷◌, map, ◌==◌, refl}
 use Rattle.std.proofs.Common.{sym, ap, ◌∙◌, arith, ne_eqb}
 use Rattle.std.proofs.lemmas.Bool.{cond-false}
-use Rattle.std.specs.List.{range_with_len}
 use Rattle.bus.specs.Meaning.{Meaning, Place, Cell, Fixed, CharacterPort, NumberPort, InputPort, Nothing, Kind, Cells, FixedCells, CharacterPorts, NumberPorts, InputPorts, Nothings, kind, HoldsByte, AllBytes, Facts}
 use Rattle.bus.specs.Shown.{byte, holds, one_kind}
 use Rattle.arrayvec.specs.ArrayVec.{ArrayVec}

@@ -112,10 +112,11 @@ impl<B: Bus + Drop> Bus for Console<B> {
         }
         match a {
             CHARACTER_PORT | NUMBER_PORT => Err(BusFault::WrongWay),
-            INPUT_PORT => {
-                let oldest = self.waiting.pop_at(0).ok_or(BusFault::NoneWaiting)?;
-                Ok(u16::from(oldest))
-            }
+            INPUT_PORT => self
+                .waiting
+                .pop_at(0)
+                .map(u16::from)
+                .ok_or(BusFault::NoneWaiting),
             _ => match self.below.peek(a) {
                 Some(_) => self.below.load_word(a),
                 None => Err(BusFault::NothingThere),
