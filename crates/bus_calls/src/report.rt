@@ -1,43 +1,42 @@
 // What is written of a bus: each answer, and a digest of all that can be learned of it at the end.
 use crate::random::Random;
-use crate::script::{Phase, next_call};
-use any_bus::{BusAnswer, BusCall, answer};
-use bus::Bus;
+use crate::script::{drain, flood, mixed, next_call};
+use any_bus::{BusCall, BusReply, answer};
+use bus::{Bus, BusFault};
 use std::fmt::Write;
 
 // Answers on one line, so that a difference can be found by its line.
 const PER_LINE: u32 = 20;
 
 // One answer: a byte or a word as its number, none as `-`, done as `.`, a refusal as `!` and its number.
-fn write_answer(out: &mut String, said: BusAnswer) -> anyhow::Result<()> {
+// Stays: a function over both types, since a `Display` would need a type of its own round the `Result`.
+fn write_answer(out: &mut String, said: Result<BusReply, BusFault>) -> anyhow::Result<()> {
     match said {
-        BusAnswer::Seen(None) => out.push_str("-")?,
-        BusAnswer::Seen(Some(b)) => write!(out, "{b}")?,
-        BusAnswer::Loaded(v) => write!(out, "{v}")?,
-        BusAnswer::Taken(b) => write!(out, "{b}")?,
-        BusAnswer::Done => out.push_str(".")?,
-        BusAnswer::Refused(f) => {
-            let number = f.number();
-            write!(out, "!{number}")?;
-        }
+        Ok(BusReply::Seen(None)) => out.push_str("-")?,
+        Ok(BusReply::Seen(Some(b)) | BusReply::Taken(b)) => write!(out, "{b}")?,
+        Ok(BusReply::Loaded(v)) => write!(out, "{v}")?,
+        Ok(BusReply::Done) => out.push_str(".")?,
+        Err(f) => write!(out, "!{}", f.number())?,
     }
     Ok(())
 }
 
-// Sends `lines` lines of calls.
-fn send_phase<B: Bus>(
+// Sends `lines` lines of calls, each drawn by `draw`.
+fn send_phase<B: Bus, F: Fn(u16, u16, u16) -> BusCall>(
     out: &mut String,
     bus: &mut B,
     random: &mut Random,
-    phase: Phase,
     lines: u32,
-) -> anyhow::Result<()> {
+    draw: F,
+) -> anyhow::Result<()>
+    requires { F.IsAlwaysCallable draw }
+{
     for _ in 0..lines {
         for i in 0..PER_LINE {
             if 0 < i {
                 out.push_str(" ")?;
             }
-            let said = answer(bus, next_call(random, phase));
+            let said = answer(bus, next_call(random, &draw));
             write_answer(out, said)?;
         }
         out.push_str("\n")?;
@@ -54,76 +53,86 @@ pub fn send_script<B: Bus>(
 ) -> anyhow::Result<()> {
     writeln!(out, "stack {name}")?;
     let mut random = Random::new(seed);
-    send_phase(out, bus, &mut random, Phase::Mixed, 60)?;
-    send_phase(out, bus, &mut random, Phase::Flood, 80)?;
-    send_phase(out, bus, &mut random, Phase::Drain, 60)?;
-    send_phase(out, bus, &mut random, Phase::Mixed, 20)
+    send_phase(out, bus, &mut random, 60, mixed)?;
+    send_phase(out, bus, &mut random, 80, flood)?;
+    send_phase(out, bus, &mut random, 60, drain)?;
+    send_phase(out, bus, &mut random, 20, mixed)
 }
 
-// One more number in a digest.
-fn mix(digest: u32, n: u32) -> u32 {
-    (digest ^ n).wrapping_mul(16777619)
-}
-
-fn mix_answer(digest: u32, said: BusAnswer) -> u32 {
+// An answer as a number.
+fn number(said: Result<BusReply, BusFault>) -> u32 {
     match said {
-        BusAnswer::Seen(None) => mix(digest, 70000),
-        BusAnswer::Seen(Some(b)) => mix(digest, u32::from(b)),
-        BusAnswer::Loaded(v) => mix(digest, u32::from(v)),
-        BusAnswer::Taken(b) => mix(digest, u32::from(b)),
-        BusAnswer::Done => mix(digest, 70001),
-        BusAnswer::Refused(f) => mix(digest, 80000 + u32::from(f.number())),
+        Ok(BusReply::Seen(None)) => 70000,
+        Ok(BusReply::Seen(Some(b)) | BusReply::Taken(b)) => u32::from(b),
+        Ok(BusReply::Loaded(v)) => u32::from(v),
+        Ok(BusReply::Done) => 70001,
+        Err(f) => 80000 + u32::from(f.number()),
     }
 }
 
-// The same call until it is refused, at most `most` times.
-fn mix_until_refused<B: Bus>(bus: &mut B, call: BusCall, most: u32, start: u32) -> u32 {
-    let mut digest = start;
-    for _ in 0..most {
+// One number made of many.
+#[derive(Drop)]
+struct Digest {
+    value: u32,
+}
+
+impl Digest {
+    fn new() -> Digest {
+        Digest { value: 2166136261 }
+    }
+
+    fn mix(&mut self, n: u32) {
+        self.value = (self.value ^ n).wrapping_mul(16777619);
+    }
+
+    // Sends a call and mixes in its answer.
+    fn send<B: Bus>(&mut self, bus: &mut B, call: BusCall) -> Result<BusReply, BusFault> {
         let said = answer(bus, call);
-        digest = mix_answer(digest, said);
-        if let BusAnswer::Refused(_) = said {
-            return digest;
-        }
+        self.mix(number(said));
+        said
     }
-    digest
-}
 
-// The kind and the byte of each address, and what waits and was sent.
-fn digest_of<B: Bus>(bus: &mut B) -> u32 {
-    let mut digest = 2166136261;
-    digest = mix_until_refused(bus, BusCall::Take, 2000, digest);
-    digest = mix_until_refused(bus, BusCall::LoadWord(0xF004), 2000, digest);
-    for a in 0..=0xFFFF {
-        let seen = answer(bus, BusCall::Peek(a));
-        digest = mix_answer(digest, seen);
-        digest = mix_answer(digest, answer(bus, BusCall::LoadByte(a)));
-        let byte = match seen {
-            BusAnswer::Seen(Some(b)) => b,
-            _ => 0,
-        };
-        digest = mix_answer(digest, answer(bus, BusCall::StoreByte(a, byte)));
-        if let BusAnswer::Seen(None) = seen {
-            digest = mix_answer(digest, answer(bus, BusCall::LoadWord(a)));
-            digest = mix_answer(digest, answer(bus, BusCall::StoreWord(a, 7)));
+    // The same call until it is refused, at most 2,000 times.
+    fn send_until_refused<B: Bus>(&mut self, bus: &mut B, call: BusCall) {
+        for _ in 0..2000 {
+            if self.send(bus, call).is_err() {
+                return;
+            }
         }
     }
-    digest = mix_until_refused(bus, BusCall::Give(1), 2000, digest);
-    mix_until_refused(bus, BusCall::StoreWord(0xF000, 1), 2000, digest)
+
+    // The kind and the byte of each address, and what waits and was sent.
+    fn learn<B: Bus>(&mut self, bus: &mut B) {
+        self.send_until_refused(bus, BusCall::Take);
+        self.send_until_refused(bus, BusCall::LoadWord(0xF004));
+        for a in 0..=0xFFFF {
+            let seen = bus.peek(a);
+            self.mix(number(Ok(BusReply::Seen(seen))));
+            let _ = self.send(bus, BusCall::LoadByte(a));
+            let _ = self.send(bus, BusCall::StoreByte(a, seen.unwrap_or(0)));
+            if seen.is_none() {
+                let _ = self.send(bus, BusCall::LoadWord(a));
+                let _ = self.send(bus, BusCall::StoreWord(a, 7));
+            }
+        }
+        self.send_until_refused(bus, BusCall::Give(1));
+        self.send_until_refused(bus, BusCall::StoreWord(0xF000, 1));
+    }
 }
 
 pub fn write_digest<B: Bus>(out: &mut String, bus: &mut B) -> anyhow::Result<()> {
-    let digest = digest_of(bus);
-    writeln!(out, "bus {digest:08x}")?;
+    let mut digest = Digest::new();
+    digest.learn(bus);
+    writeln!(out, "bus {:08x}", digest.value)?;
     Ok(())
 }
 
 // The bytes that come back to their lender, those past the cells too.
 pub fn write_bytes(out: &mut String, bytes: &[u8]) -> anyhow::Result<()> {
-    let mut digest = 2166136261;
+    let mut digest = Digest::new();
     for b in bytes {
-        digest = mix(digest, u32::from(*b));
+        digest.mix(u32::from(*b));
     }
-    writeln!(out, "bytes {digest:08x}")?;
+    writeln!(out, "bytes {:08x}", digest.value)?;
     Ok(())
 }

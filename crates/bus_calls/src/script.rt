@@ -2,14 +2,6 @@
 use crate::random::Random;
 use any_bus::BusCall;
 
-// What a phase of a script mostly does.
-#[derive(Clone, Copy)]
-pub enum Phase {
-    Mixed,
-    Flood,
-    Drain,
-}
-
 // Addresses at and around the edges of memory, cards and ports.
 fn address(class: u16, n: u16) -> u16 {
     match class % 8 {
@@ -36,47 +28,46 @@ fn value(n: u16) -> u16 {
 }
 
 // Fills the queues faster than it empties them.
-fn flood(kind: u16, a: u16, v: u16) -> BusCall {
+pub fn flood(kind: u16, a: u16, v: u16) -> BusCall {
     match kind % 8 {
         0 | 1 | 2 => BusCall::StoreWord(0xF002, v),
         3 => BusCall::StoreWord(0xF000, v),
-        4 | 5 => BusCall::Give((v % 256) as u8),
+        4 | 5 => BusCall::Give(v.to_be_bytes()[1]),
         6 => BusCall::StoreWord(a, v),
         _ => BusCall::Peek(a),
     }
 }
 
 // Empties the queues.
-fn drain(kind: u16, a: u16, v: u16) -> BusCall {
+pub fn drain(kind: u16, a: u16, v: u16) -> BusCall {
     match kind % 8 {
         0 | 1 | 2 | 3 => BusCall::Take,
         4 | 5 => BusCall::LoadWord(0xF004),
         6 => BusCall::LoadWord(a),
-        _ => BusCall::StoreByte(a, (v % 256) as u8),
+        _ => BusCall::StoreByte(a, v.to_be_bytes()[1]),
     }
 }
 
-fn mixed(kind: u16, a: u16, v: u16) -> BusCall {
+// All calls alike.
+pub fn mixed(kind: u16, a: u16, v: u16) -> BusCall {
     match kind % 8 {
         0 => BusCall::Peek(a),
         1 => BusCall::LoadByte(a),
         2 => BusCall::LoadWord(a),
-        3 => BusCall::StoreByte(a, (v % 256) as u8),
+        3 => BusCall::StoreByte(a, v.to_be_bytes()[1]),
         4 | 5 => BusCall::StoreWord(a, v),
-        6 => BusCall::Give((v % 256) as u8),
+        6 => BusCall::Give(v.to_be_bytes()[1]),
         _ => BusCall::Take,
     }
 }
 
-// The next call: four numbers, for its kind, the class of its address, the address and the value.
-pub fn next_call(random: &mut Random, phase: Phase) -> BusCall {
+// The next call, by four numbers: for its kind, the class of its address, the address and the value.
+pub fn next_call<F: Fn(u16, u16, u16) -> BusCall>(random: &mut Random, draw: &F) -> BusCall
+    requires { F.IsAlwaysCallable draw.now }
+{
     let kind = random.next();
     let class = random.next();
     let a = address(class, random.next());
     let v = value(random.next());
-    match phase {
-        Phase::Mixed => mixed(kind, a, v),
-        Phase::Flood => flood(kind, a, v),
-        Phase::Drain => drain(kind, a, v),
-    }
+    draw(kind, a, v)
 }

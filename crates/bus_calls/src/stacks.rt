@@ -1,6 +1,6 @@
 // The stacks of buses that the calls go to.
 use crate::report::{send_script, write_bytes, write_digest};
-use bus::Flat;
+use bus::{Bus, Flat};
 use card::ProgramCard;
 use console::Console;
 use std::fmt::Write;
@@ -26,22 +26,36 @@ fn filled(out: &mut String, program: &[u8]) -> anyhow::Result<ProgramCard> {
     let length = program.len();
     match card.fill(program) {
         Ok(()) => writeln!(out, "card {length}")?,
-        Err(f) => {
-            let number = f.number();
-            writeln!(out, "card {length} !{number}")?;
-        }
+        Err(f) => writeln!(out, "card {length} !{}", f.number())?,
     }
     Ok(card)
 }
 
-fn flat(out: &mut String, name: &str, bytes: &mut [u8], seed: u32) -> anyhow::Result<()> {
+// Sends the script to a bus, then writes its digest, and gives it back.
+fn sent<B: Bus + Drop>(out: &mut String, name: &str, mut bus: B, seed: u32) -> anyhow::Result<B> {
+    send_script(out, name, &mut bus, seed)?;
+    write_digest(out, &mut bus)?;
+    Ok(bus)
+}
+
+// Lends the same bytes to a stack that `run` builds over them, and writes what comes back.
+fn lend<F: FnOnce(&mut String, &mut [u8]) -> anyhow::Result<()>>(
+    out: &mut String,
+    bytes: &mut [u8],
+    run: F,
+) -> anyhow::Result<()>
+    requires { F.IsAlwaysCallable run }
+{
     refill(bytes);
-    {
-        let mut bus = Flat::new(bytes);
-        send_script(out, name, &mut bus, seed)?;
-        write_digest(out, &mut bus)?;
-    }
+    run(out, bytes)?;
     write_bytes(out, bytes)
+}
+
+fn flat(out: &mut String, name: &str, bytes: &mut [u8], seed: u32) -> anyhow::Result<()> {
+    lend(out, bytes, |out, bytes| {
+        sent(out, name, Flat::new(bytes), seed)?;
+        Ok(())
+    })
 }
 
 fn card(
@@ -51,186 +65,90 @@ fn card(
     bytes: &mut [u8],
     seed: u32,
 ) -> anyhow::Result<()> {
-    refill(bytes);
-    {
-        let mut bus = filled(out, program)?.over(Flat::new(bytes));
-        send_script(out, name, &mut bus, seed)?;
-        write_digest(out, &mut bus)?;
-        write_digest(out, &mut bus.into_below())?;
-    }
-    write_bytes(out, bytes)
-}
-
-fn card_over_card(
-    out: &mut String,
-    name: &str,
-    upper: &[u8],
-    lower: &[u8],
-    bytes: &mut [u8],
-    seed: u32,
-) -> anyhow::Result<()> {
-    refill(bytes);
-    {
-        let below = filled(out, lower)?.over(Flat::new(bytes));
-        let mut bus = filled(out, upper)?.over(below);
-        send_script(out, name, &mut bus, seed)?;
-        write_digest(out, &mut bus)?;
-    }
-    write_bytes(out, bytes)
+    lend(out, bytes, |out, bytes| {
+        let bus = filled(out, program)?.over(Flat::new(bytes));
+        let mut below = sent(out, name, bus, seed)?.into_below();
+        write_digest(out, &mut below)
+    })
 }
 
 fn console(out: &mut String, name: &str, bytes: &mut [u8], seed: u32) -> anyhow::Result<()> {
-    refill(bytes);
-    {
-        let mut bus = Console::new(Flat::new(bytes));
-        send_script(out, name, &mut bus, seed)?;
-        write_digest(out, &mut bus)?;
-        write_digest(out, &mut bus.into_below())?;
-    }
-    write_bytes(out, bytes)
+    lend(out, bytes, |out, bytes| {
+        let bus = Console::new(Flat::new(bytes));
+        let mut below = sent(out, name, bus, seed)?.into_below();
+        write_digest(out, &mut below)
+    })
 }
 
-fn console_over_card(
+fn flats(out: &mut String, bytes: &mut [u8; MOST_BYTES]) -> anyhow::Result<()> {
+    flat(out, "flat 0", &mut bytes[..0], 1)?;
+    flat(out, "flat 7", &mut bytes[..7], 2)?;
+    flat(out, "flat 65536", &mut bytes[..65536], 3)?;
+    flat(out, "flat 65539", bytes, 4)
+}
+
+fn cards(
     out: &mut String,
-    name: &str,
-    program: &[u8],
-    bytes: &mut [u8],
-    seed: u32,
+    program: &[u8; MOST_PROGRAM],
+    bytes: &mut [u8; MOST_BYTES],
 ) -> anyhow::Result<()> {
-    refill(bytes);
-    {
-        let mut bus = Console::new(filled(out, program)?.over(Flat::new(bytes)));
-        send_script(out, name, &mut bus, seed)?;
-        write_digest(out, &mut bus)?;
-    }
-    write_bytes(out, bytes)
-}
-
-fn card_over_console(
-    out: &mut String,
-    name: &str,
-    program: &[u8],
-    bytes: &mut [u8],
-    seed: u32,
-) -> anyhow::Result<()> {
-    refill(bytes);
-    {
-        let mut bus = filled(out, program)?.over(Console::new(Flat::new(bytes)));
-        send_script(out, name, &mut bus, seed)?;
-        write_digest(out, &mut bus)?;
-    }
-    write_bytes(out, bytes)
-}
-
-// The lower console has bytes of its own before the upper one hides it.
-fn console_over_console(
-    out: &mut String,
-    name: &str,
-    bytes: &mut [u8],
-    seed: u32,
-) -> anyhow::Result<()> {
-    refill(bytes);
-    {
-        let mut lower = Console::new(Flat::new(bytes));
-        send_script(out, "lower console", &mut lower, seed)?;
-        let mut upper = Console::new(lower);
-        send_script(out, name, &mut upper, seed ^ 1)?;
-        write_digest(out, &mut upper)?;
-        write_digest(out, &mut upper.into_below())?;
-    }
-    write_bytes(out, bytes)
-}
-
-// The first `n` bytes, or all where there are fewer.
-fn front(bytes: &mut [u8], n: usize) -> &mut [u8] {
-    let end = n.min(bytes.len());
-    &mut bytes[0..end]
-}
-
-// The first `n` bytes of a program, or all where there are fewer.
-fn part(program: &[u8], n: usize) -> &[u8] {
-    let end = n.min(program.len());
-    &program[0..end]
-}
-
-fn flats(out: &mut String, bytes: &mut [u8]) -> anyhow::Result<()> {
-    flat(out, "flat 0", front(bytes, 0), 1)?;
-    flat(out, "flat 7", front(bytes, 7), 2)?;
-    flat(out, "flat 65536", front(bytes, 65536), 3)?;
-    flat(out, "flat 65539", front(bytes, 65539), 4)
-}
-
-fn cards(out: &mut String, program: &[u8], bytes: &mut [u8]) -> anyhow::Result<()> {
-    card(
-        out,
-        "card 0, flat 64",
-        part(program, 0),
-        front(bytes, 64),
-        5,
-    )?;
-    card(
-        out,
-        "card 10, flat 64",
-        part(program, 10),
-        front(bytes, 64),
-        6,
-    )?;
-    card(
-        out,
-        "card 64, flat 11",
-        part(program, 64),
-        front(bytes, 11),
-        7,
-    )?;
+    card(out, "card 0, flat 64", &program[..0], &mut bytes[..64], 5)?;
+    card(out, "card 10, flat 64", &program[..10], &mut bytes[..64], 6)?;
+    card(out, "card 64, flat 11", &program[..64], &mut bytes[..11], 7)?;
     card(
         out,
         "card 4096, flat 65536",
-        part(program, 4096),
-        front(bytes, 65536),
+        &program[..4096],
+        &mut bytes[..65536],
         8,
     )?;
     card(
         out,
         "card 11 refused, flat 20",
-        part(program, 11),
-        front(bytes, 20),
+        &program[..11],
+        &mut bytes[..20],
         9,
     )?;
     card(
         out,
         "card 4098 refused, flat 20",
-        part(program, 4098),
-        front(bytes, 20),
+        program,
+        &mut bytes[..20],
         10,
     )?;
-    card_over_card(
-        out,
-        "card 4, card 8, flat 12",
-        part(program, 4),
-        part(program, 8),
-        front(bytes, 12),
-        11,
-    )
+    lend(out, &mut bytes[..12], |out, bytes| {
+        let lower = filled(out, &program[..8])?.over(Flat::new(bytes));
+        let bus = filled(out, &program[..4])?.over(lower);
+        sent(out, "card 4, card 8, flat 12", bus, 11)?;
+        Ok(())
+    })
 }
 
-fn consoles(out: &mut String, program: &[u8], bytes: &mut [u8]) -> anyhow::Result<()> {
-    console(out, "console, flat 0", front(bytes, 0), 12)?;
-    console(out, "console, flat 65536", front(bytes, 65536), 13)?;
-    console_over_card(
-        out,
-        "console, card 4096, flat 65535",
-        part(program, 4096),
-        front(bytes, 65535),
-        14,
-    )?;
-    card_over_console(
-        out,
-        "card 16, console, flat 7",
-        part(program, 16),
-        front(bytes, 7),
-        15,
-    )?;
-    console_over_console(out, "console, console, flat 61445", front(bytes, 61445), 16)
+fn consoles(
+    out: &mut String,
+    program: &[u8; MOST_PROGRAM],
+    bytes: &mut [u8; MOST_BYTES],
+) -> anyhow::Result<()> {
+    console(out, "console, flat 0", &mut bytes[..0], 12)?;
+    console(out, "console, flat 65536", &mut bytes[..65536], 13)?;
+    lend(out, &mut bytes[..65535], |out, bytes| {
+        let bus = Console::new(filled(out, &program[..4096])?.over(Flat::new(bytes)));
+        sent(out, "console, card 4096, flat 65535", bus, 14)?;
+        Ok(())
+    })?;
+    lend(out, &mut bytes[..7], |out, bytes| {
+        let bus = filled(out, &program[..16])?.over(Console::new(Flat::new(bytes)));
+        sent(out, "card 16, console, flat 7", bus, 15)?;
+        Ok(())
+    })?;
+    // The lower console has bytes of its own before the upper one hides it.
+    lend(out, &mut bytes[..61445], |out, bytes| {
+        let mut lower = Console::new(Flat::new(bytes));
+        send_script(out, "lower console", &mut lower, 16)?;
+        let bus = Console::new(lower);
+        let mut below = sent(out, "console, console, flat 61445", bus, 17)?.into_below();
+        write_digest(out, &mut below)
+    })
 }
 
 pub fn all(out: &mut String) -> anyhow::Result<()> {
