@@ -9,6 +9,7 @@ ghost use Rattle.any_bus.specs.Answers.{Then, value_of};
 use bus::{Bus, BusFault, Flat};
 
 // Stores a byte and loads it again.
+// Stays: a function for bytes and one for words, since a trait for what a store moves would state each clause of load and store again, and both would keep their own.
 pub fn store_and_load_byte<B: Bus>(bus: &mut B, a: u16, b: u8) -> Result<u8, BusFault>
     ensures back { kind ((B.Bus.meaning bus.old).place a) ≡ Cells → result ≡ Ok b }
     ensures comes { Then (store_byte (B.Bus.meaning bus.old) a b) (B.Bus.meaning bus.old) (λ m. load_byte m a) result (B.Bus.meaning bus.new) }

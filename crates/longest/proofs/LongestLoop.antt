@@ -1,12 +1,13 @@
 -- The longest loop, computed on either side: the reading at a stroke, the board word by word, in eight parts.
 use Rattle.std.proofs.Common.{◌≡◌, ℕ, zero, suc, ◌+◌, ◌-◌, ◌/◌, ◌%◌, ◌<◌, ◌≤◌, Bool, true, false, eqb, List, [], ◌∷◌, get_or, drop, Some, None, Ok, Err, Option, Result, sym, refl, ap, ◌∙◌, arith}
 use mathlib.Core.Path.{fun_ext}
+use Rattle.std.specs.Prelude.{not}
 use Rattle.machine.specs.Machine.{Outcome, Done, Halts, Refused, outcome}
 use Rattle.machine.specs.Board.{Fault, placed, End, Halted, Spent, Course, behind, Board, started, decoded, fetched, fetch, does, step, execute}
 use Rattle.machine.specs.Program.{line_at, in_line}
 use Rattle.machine.specs.Reading.{Reading, current, read}
 use Rattle.machine.specs.Calls.{Call, Run, Ran, Reply, told, BoardTranscript, calls, board_call, reading_call}
-use Rattle.worked.specs.Worked.{Size, Two, modulus, Registers, put, Core, Bus, Denial, Refusal, peek, load, store, Word, Ldc, Lsr, Sub, Bez, Bnz, Ldw, Stw, Hcf, fields, table, decode, flip, branch, loaded, stored, act, worked}
+use Rattle.worked.specs.Worked.{Size, Two, modulus, Registers, put, Core, Bus, Denial, Refusal, peek, load, store, Word, Ldc, Lsr, Sub, Bez, Bnz, Ldw, Stw, Hcf, fields, table, decode, branch, loaded, stored, act, worked}
 use Rattle.worked.specs.Page.{blank, bus_of, reads, runs, longest}
 use Rattle.longest.specs.LongestPage.{long_calls, long_page, behind_the_loop, LongestPage}
 use Rattle.machine.proofs.Ticks.{execute_done, execute_halts, execute-refused}
@@ -59,7 +60,7 @@ module _ (z : Size) (q : ℕ) (high : 8 ≤ q) where
   word_kept (Lsr r s) h c b = put_kept r _ c.regs h
   word_kept (Sub r n) h c b = put_kept r _ c.regs h
   word_kept (Bez r n) h c b = branch_kept c (eqb (c.regs r) 0) (c.next + 2 + n)
-  word_kept (Bnz r n) h c b = branch_kept c (flip (eqb (c.regs r) 0)) (c.next + 2 + (modulus z - n))
+  word_kept (Bnz r n) h c b = branch_kept c (not (eqb (c.regs r) 0)) (c.next + 2 + (modulus z - n))
   word_kept (Ldw r s) h c b = load_kept r c h (load z b (c.regs s))
   word_kept (Stw r s) h c b = store_kept c (c.regs s) (store z b (c.regs s) (c.regs r))
   word_kept Hcf h c b = refl

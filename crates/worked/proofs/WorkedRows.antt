@@ -1,12 +1,14 @@
 -- Each kind of line of the worked machine keeps what it owes, at both sizes.
 use Rattle.std.proofs.Common.{◌≡◌, ℕ, zero, suc, ◌+◌, ◌-◌, ◌*◌, ◌/◌, ◌%◌, ◌^◌, ◌<◌, Bool, true, false, eqb, ◌≢◌, List, [], ◌∷◌, ◌++◌, length, Ok, Err, Result, sym, refl, ap, ◌∙◌, add-zero, arith, eq-eqb, ne_eqb, eqb-true}
 use native.Mathlib.Nat.{div-div-eq-div-mul, pow-succ'}
-use borrow.Author.Tests.{eqb-false}
+use Rattle.std.proofs.lemmas.Bool.{eqb-false}
+use Rattle.std.specs.Prelude.{not}
+use Rattle.std.specs.List.{range_with_len}
 use Rattle.machine.specs.Machine.{Outcome, Done, Quiet, outcome}
 use Rattle.machine.specs.Board.{Fault, placed}
 use Rattle.machine.specs.Obligation.{AllValid, Owes}
 use Rattle.machine.specs.Rules.{after, AllPlain, Straight, Loop, Looped, Guarded}
-use Rattle.worked.specs.Worked.{Size, Two, Four, width, modulus, Registers, put, Core, Bus, Refusal, parts, span, load, store, Word, Ldc, Lsr, Sub, Bez, Bnz, Ldw, Stw, Valid, flip, on, past, sets, branch, loaded, stored, act, worked, Row, One, Ldi, LdwAt, StwAt, Lsrm, LsrmOrNone, at, ldcs, ldi, shift_loop, turns, load_stroke, store_stroke, shifted, stroke, Proper, line}
+use Rattle.worked.specs.Worked.{Size, Two, Four, width, modulus, Registers, put, Core, Bus, Refusal, parts, load, store, Word, Ldc, Lsr, Sub, Bez, Bnz, Ldw, Stw, Valid, on, past, sets, branch, loaded, stored, act, worked, Row, One, Ldi, LdwAt, StwAt, Lsrm, LsrmOrNone, at, ldcs, ldi, shift_loop, turns, load_stroke, store_stroke, shifted, stroke, Proper, line}
 use Rattle.machine.proofs.ReadyMade.{rules}
 use Rattle.worked.specs.WorkedLaws.{put_same, put_other, put_put, put_swap, put_self, small, below, twice, worked_laws}
 
@@ -96,7 +98,7 @@ module _ (z : Size) where
       }
     where
       stores : (g : Registers) (c : Core) (o : Result Bus Refusal) → placed (on z (width z) c) (stored z (past z g (width z) c) n o) ≡ store_stroke z g c n o
-      stores g c (Ok b) = ap (λ m. Done (record { regs = g; next = m }) b (span n (width z))) (on_step z (width z) c)
+      stores g c (Ok b) = ap (λ m. Done (record { regs = g; next = m }) b (range_with_len n (width z))) (on_step z (width z) c)
       stores g c (Err why) = refl
 
 -- `ldi` itself ends in an `ldc`
@@ -125,10 +127,6 @@ ldi-line Four r n hr h =
 -- one less, and how often a loop turns
 unfoldable less : Size → ℕ → ℕ
 less z x = (x + (modulus z - 1)) % modulus z
-
-less_small : (z : Size) (x : ℕ) → less z x < modulus z
-unfolding less
-less_small z x = small z (x + (modulus z - 1))
 
 turns_less : (z : Size) (x k : ℕ) → turns z x ≡ suc k → x < modulus z → less z x ≡ k
 unfolding less
@@ -200,8 +198,8 @@ module _ (z : Size) (r s : ℕ) (ne : r ≢ s) (count : ℕ → ℕ) (count_less
 
   -- the branch at the end of a turn
   branched : (g : Registers) (a : ℕ) (t : Bool) → eqb (less z (g s)) 0 ≡ t →
-      act z (Bnz s 6) (core (turned g) (a + 4)) ≡ Quiet (branch z (core (turned g) (a + 4)) (flip t) (a + 4 + 2 + (modulus z - 6)))
-  branched g a t e = ap (λ t. Quiet (branch z (core (turned g) (a + 4)) (flip t) (a + 4 + 2 + (modulus z - 6)))) (ap (λ x. eqb x 0) (turned_s g) ∙ e)
+      act z (Bnz s 6) (core (turned g) (a + 4)) ≡ Quiet (branch z (core (turned g) (a + 4)) (not t) (a + 4 + 2 + (modulus z - 6)))
+  branched g a t e = ap (λ t. Quiet (branch z (core (turned g) (a + 4)) (not t) (a + 4 + 2 + (modulus z - 6)))) (ap (λ x. eqb x 0) (turned_s g) ∙ e)
 
   loop : Loop (worked z) body (Bnz s 6) (λ c. count (c.regs s)) (λ c b. Done (past z (shifted z r s (count (c.regs s)) c.regs) 3 c) b [])
   loop =

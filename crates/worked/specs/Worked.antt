@@ -1,5 +1,6 @@
 -- A small machine on which the definitions are seen at work: eight words and six kinds of line, with words of two bytes or of four.
-use Rattle.std.specs.Prelude.{ℕ, zero, suc, ◌+◌, ◌-◌, ◌*◌, ◌/◌, ◌%◌, ◌^◌, ◌<◌, Bool, true, false, ◌≢◌, List, [], ◌∷◌, ◌++◌, length, Some, None, Ok, Err, Option, Result, ◌==◌, nat_lt, slice_index_or}
+use Rattle.std.specs.Prelude.{ℕ, zero, suc, ◌+◌, ◌-◌, ◌*◌, ◌/◌, ◌%◌, ◌^◌, ◌<◌, Bool, true, false, cond, not, ◌≢◌, List, [], ◌∷◌, ◌++◌, length, Some, None, Ok, Err, Option, Result, ◌==◌, nat_lt, slice_index_or}
+use Rattle.std.specs.List.{AllByRecursion, range_with_len}
 use Rattle.machine.specs.Machine.{Outcome, Done, Halts, Refused, Act, Quiet, Asks, outcome, Machine}
 use Rattle.machine.specs.Board.{Fault, OfWord, placed}
 use Rattle.machine.specs.Program.{Line}
@@ -13,6 +14,10 @@ pub data Size : Type 0 where
 abbrev pub width : Size → ℕ
 width Two = 2
 width Four = 4
+
+-- The size by the bytes of a word; any number of them but four stands for two.
+abbrev pub size_of : ℕ → Size
+size_of n = cond (n == 4) Four Two
 
 -- The numbers of a register are below this.
 abbrev pub modulus : Size → ℕ
@@ -106,11 +111,6 @@ gathered m a (suc n) v = gathered m (a + 1) n (v * 256 + byte_at (m a))
 abbrev pub parts : ℕ → ℕ → List ℕ
 parts zero v = []
 parts (suc n) v = (v / 256 ^ n % 256) ∷ parts n v
-
--- The n addresses from a on.
-abbrev pub span : ℕ → ℕ → List ℕ
-span a zero = []
-span a (suc n) = a ∷ span (a + 1) n
 
 -- A bus with other places.
 abbrev pub on_places : Bus → (ℕ → Place) → Bus
@@ -214,11 +214,6 @@ table r n = Some (Ldc r n) ∷ (Some (Lsr r n) ∷ (Some (Sub r n) ∷ (Some (Be
 abbrev pub decode : ℕ → ℕ → Option Word
 decode h l = slice_index_or (table (h % 8) l) (h / 8) None
 
--- The other answer of a test.
-abbrev pub flip : Bool → Bool
-flip true = false
-flip false = true
-
 module _ (z : Size) where
   -- The address n words on.
   abbrev pub on : ℕ → Core → ℕ
@@ -244,7 +239,7 @@ module _ (z : Size) where
 
   -- A word's store to the address a.
   abbrev pub stored : Core → ℕ → Result Bus Refusal → Outcome Core Bus Refusal
-  stored c a (Ok b) = Done (past c.regs 1 c) b (span a (width z))
+  stored c a (Ok b) = Done (past c.regs 1 c) b (range_with_len a (width z))
   stored c a (Err why) = Refused why
 
   -- What each word does.
@@ -253,7 +248,7 @@ module _ (z : Size) where
   act (Lsr r s) c = Quiet (sets r (c.regs s / 2) c)
   act (Sub r n) c = Quiet (sets r ((c.regs r + (modulus z - n)) % modulus z) c)
   act (Bez r n) c = Quiet (branch c (c.regs r == 0) (c.next + 2 + n))
-  act (Bnz r n) c = Quiet (branch c (flip (c.regs r == 0)) (c.next + 2 + (modulus z - n)))
+  act (Bnz r n) c = Quiet (branch c (not (c.regs r == 0)) (c.next + 2 + (modulus z - n)))
   act (Ldw r s) c = Asks (λ b. loaded r c (load z b (c.regs s)))
   act (Stw r s) c = Asks (λ b. stored c (c.regs s) (store z b (c.regs s) (c.regs r)))
   act Hcf c = Asks (λ b. Halts c)
@@ -264,8 +259,7 @@ module _ (z : Size) where
 
 -- Each number of a list is a byte.
 abbrev pub Bytes : List ℕ → Type 0
-Bytes [] = Unit {0}
-Bytes (v ∷ vs) = (v < 256) × Bytes vs
+Bytes vs = AllByRecursion (λ v. v < 256) vs
 
 -- What every bus shows here: each byte that stands at an address or waits is below 256.
 pub record Sound (b : Bus) : Type 0 where
@@ -347,7 +341,7 @@ module _ (z : Size) where
 
   -- What a line's store to the address a comes to, with the same address in its fault.
   abbrev pub store_stroke : Registers → Core → ℕ → Result Bus Refusal → Outcome Core Bus (Fault Refusal)
-  store_stroke g c a (Ok b) = Done (past z g (suc (width z)) c) b (span a (width z))
+  store_stroke g c a (Ok b) = Done (past z g (suc (width z)) c) b (range_with_len a (width z))
   store_stroke g c a (Err why) = Refused (OfWord (on z (width z) c) why)
 
   -- The registers after r is shifted to the right by k places, with s 0.

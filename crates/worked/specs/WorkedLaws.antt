@@ -1,10 +1,11 @@
 -- The worked machine keeps the laws of a machine.
-use Rattle.std.specs.Prelude.{◌≡◌, ℕ, zero, suc, ◌+◌, ◌-◌, ◌*◌, ◌/◌, ◌%◌, ◌^◌, ◌<◌, Bool, true, false, ◌≢◌, List, [], ◌∷◌, ◌++◌, length, get_or, Some, None, Ok, Err, Result, ◌==◌, nat_eq, nat_lt, slice_index_or}
+use Rattle.std.specs.Prelude.{◌≡◌, ℕ, zero, suc, ◌+◌, ◌-◌, ◌*◌, ◌/◌, ◌%◌, ◌^◌, ◌<◌, Bool, true, false, not, ◌≢◌, List, [], ◌∷◌, ◌++◌, length, get_or, Some, None, Ok, Err, Result, ◌==◌, nat_eq, nat_lt, slice_index_or}
+use Rattle.std.specs.List.{range_with_len}
 use Rattle.std.proofs.Math.Path.{refl, fun_ext}
 use Rattle.std.proofs.Common.{sym, ◌∙◌, ap, ap₂, arith, eqb-true, eq-eqb, ne_eqb}
 use Rattle.std.proofs.lemmas.Bool.{eqb-false}
 use Rattle.machine.specs.Machine.{any, Shows, Fair, FairAct, Laws}
-use Rattle.worked.specs.Worked.{Size, Two, Four, width, modulus, Registers, put, Core, Place, Cell, Fixed, CharacterPort, InputPort, Nothing, Bus, Refusal, shown, byte_at, over, writes, gathered, parts, span, on_waiting, on_sent, peek, given, give, oldest, take, received, sends, even, load_from, load, store_to, store, Word, Ldc, Lsr, Sub, Bez, Bnz, Ldw, Stw, Hcf, fields, Valid, table, decode, flip, branch, loaded, stored, act, Fits, Bytes, Sound, worked}
+use Rattle.worked.specs.Worked.{Size, Two, Four, width, modulus, Registers, put, Core, Place, Cell, Fixed, CharacterPort, InputPort, Nothing, Bus, Refusal, shown, byte_at, over, writes, gathered, parts, on_waiting, on_sent, peek, given, give, oldest, take, received, sends, even, load_from, load, store_to, store, Word, Ldc, Lsr, Sub, Bez, Bnz, Ldw, Stw, Hcf, fields, Valid, table, decode, branch, loaded, stored, act, Fits, Bytes, Sound, worked}
 use Rattle.machine.proofs.Facts.{any_not}
 
 -- registers
@@ -89,11 +90,11 @@ writes_small m (suc n) v a x h = go (writes_small m n v (a + 1) x h) (x == a)
     go ih true = over_small (m x) (v / 256 ^ n % 256) h (omega arith)
     go ih false = ih
 
-writes_other : (m : ℕ → Place) (n v a x : ℕ) → any (nat_eq x) (span a n) ≡ false → writes m a (parts n v) x ≡ m x
+writes_other : (m : ℕ → Place) (n v a x : ℕ) → any (nat_eq x) (range_with_len a n) ≡ false → writes m a (parts n v) x ≡ m x
 unfolding writes
 writes_other m zero v a x h = refl
 writes_other m (suc n) v a x h =
-    let k = any_not (nat_eq x) a (span (a + 1) n) h in
+    let k = any_not (nat_eq x) a (range_with_len (a + 1) n) h in
     rw (k.0, writes) (writes_other m n v (a + 1) x k.1)
 
 gathered_small : (z : Size) (m : ℕ → Place) (a : ℕ) → ((x : ℕ) → byte_at (m x) < 256) → gathered m a (width z) 0 < modulus z
@@ -163,7 +164,7 @@ module _ (z : Size) where
       aligned false = tt
 
   abbrev StoreFair : Bus → ℕ → Result Bus Refusal → Type 0
-  StoreFair b a (Ok b') = Shows (worked z) b b' (span a (width z))
+  StoreFair b a (Ok b') = Shows (worked z) b b' (range_with_len a (width z))
   StoreFair b a (Err why) = Unit {0}
 
   store_fair : (b : Bus) → Sound b → (a v : ℕ) → StoreFair b a (store z b a v)
@@ -197,7 +198,7 @@ module _ (z : Size) where
   acts (Lsr r s) c v g = put_fits r _ c.regs (omega (arith, g s)) g
   acts (Sub r n) c v g = put_fits r _ c.regs (small z _) g
   acts (Bez r n) c v g = branch_fits c (c.regs r == 0) (c.next + 2 + n) g
-  acts (Bnz r n) c v g = branch_fits c (flip (c.regs r == 0)) (c.next + 2 + (modulus z - n)) g
+  acts (Bnz r n) c v g = branch_fits c (not (c.regs r == 0)) (c.next + 2 + (modulus z - n)) g
   acts (Ldw r s) c v g = λ b k. go b k (load z b (c.regs s)) (load_fair b k (c.regs s))
     where
       go : (b : Bus) → Sound b → (o : Result (ℕ × Bus) Refusal) → LoadFair b o → Fair (worked z) b (loaded z r c o)

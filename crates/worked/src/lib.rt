@@ -4,31 +4,25 @@
 ghost use Rattle.std.specs.Prelude.{◌≡◌, [], ◌∷◌, ◌++◌, Some};
 ghost use Rattle.machine.specs.Calls.{Run};
 ghost use Rattle.machine.specs.Agreement.{Agreement};
-ghost use Rattle.worked.specs.Worked.{worked, Two, Four, RowsKeep};
+ghost use Rattle.worked.specs.Worked.{worked, size_of, Two, Four, RowsKeep};
 ghost use Rattle.worked.specs.Page.{FirstPage, OwnLinePage, OffTheLinesPage, FourBytesPage, PagesFollow, runs, reads, shift_and_send, script, own_line_rows, nothing_behind, data_behind, off_the_lines_calls, shift_twice, four_calls, answer_at, words_of, byte_of, number_of, address_of};
 ghost use Rattle.worked.specs.WorkedLaws.{worked_laws};
 
 use machine::{Lawful, board_follows_reading};
 
-// The worked machine with words of two bytes.
+// The worked machine with words of so many bytes.
 #[derive(Drop)]
-pub struct TwoBytes;
+pub struct WordsOf<const BYTES: usize>;
 
-impl Lawful for TwoBytes {
-    ghost machine = { worked Two };
+impl<const BYTES: usize> Lawful for WordsOf<BYTES> {
+    ghost machine = { worked (size_of BYTES) };
 
-    ghost keeps = { worked_laws Two };
+    ghost keeps = { worked_laws (size_of BYTES) };
 }
 
-// The worked machine with words of four bytes.
-#[derive(Drop)]
-pub struct FourBytes;
+pub type TwoBytes = WordsOf<2>;
 
-impl Lawful for FourBytes {
-    ghost machine = { worked Four };
-
-    ghost keeps = { worked_laws Four };
-}
+pub type FourBytes = WordsOf<4>;
 
 // Each kind of line keeps what it owes, at both sizes.
 pub fn rows_keep()
@@ -66,6 +60,7 @@ fn four_bytes_page()
     ensures { FourBytesPage }
 {}
 
+// Stays: a function for each number on the pages, since each has a theorem and an edit of its own.
 // The words spent on a line begun, when the first run ends in its middle.
 pub fn words_begun() -> u64
     ensures { result ≡ (reads Two shift_and_send (Run 3 ∷ [])).left.u }
