@@ -1,6 +1,6 @@
 // What is written of a bus: each answer, and a digest of all that can be learned of it at the end.
 use crate::random::Random;
-use crate::script::{drain, flood, mixed, next_call};
+use crate::script::{drain, drawn, flood, mixed};
 use any_bus::{BusCall, BusReply, answer};
 use bus::{Bus, BusFault};
 use std::fmt::Write;
@@ -21,23 +21,23 @@ fn write_answer(out: &mut String, said: Result<BusReply, BusFault>) -> anyhow::R
     Ok(())
 }
 
-// Sends `lines` lines of calls, each drawn by `draw`.
+// Sends `lines` lines of calls, each made by `call`.
 fn send_phase<B: Bus, F: Fn(u16, u16, u16) -> BusCall>(
     out: &mut String,
     bus: &mut B,
     random: &mut Random,
     lines: u32,
-    draw: F,
+    call: F,
 ) -> anyhow::Result<()>
-    requires { F.IsAlwaysCallable draw }
+    requires { F.IsAlwaysCallable call }
 {
     for _ in 0..lines {
         for i in 0..PER_LINE {
             if 0 < i {
                 out.push_str(" ")?;
             }
-            let said = answer(bus, next_call(random, &draw));
-            write_answer(out, said)?;
+            let (kind, a, v) = drawn(random);
+            write_answer(out, answer(bus, call(kind, a, v)))?;
         }
         out.push_str("\n")?;
     }

@@ -61,13 +61,11 @@ pub fn mixed(kind: u16, a: u16, v: u16) -> BusCall {
     }
 }
 
-// The next call, by four numbers: for its kind, the class of its address, the address and the value.
-pub fn next_call<F: Fn(u16, u16, u16) -> BusCall>(random: &mut Random, draw: &F) -> BusCall
-    requires { F.IsAlwaysCallable draw.now }
-{
+// What the next call is made of: a kind, an address of some class and a value.
+pub fn drawn(random: &mut Random) -> (u16, u16, u16) {
     let kind = random.next();
     let class = random.next();
     let a = address(class, random.next());
     let v = value(random.next());
-    draw(kind, a, v)
+    (kind, a, v)
 }
