@@ -1,6 +1,7 @@
 -- Lists of calls, and the agreement.
 use Rattle.std.proofs.Common.{◌≡◌, ℕ, zero, suc, ◌<◌, ◌≤◌, Bool, true, false, List, [], ◌∷◌, ◌++◌, length, Ok, Err, Result, sym, refl, ap, ◌∙◌, subst, ap₂, le_refl, arith}
-use Rattle.machine.specs.Machine.{Machine, Laws, any}
+use Rattle.std.specs.List.{list_any}
+use Rattle.machine.specs.Machine.{Machine, Laws}
 use Rattle.machine.specs.Board.{End, Spent, asked, unless, Board, started, execute}
 use Rattle.machine.specs.Program.{Item, image}
 use Rattle.machine.specs.Obligation.{Keeps}
@@ -138,7 +139,7 @@ module _ (M : Machine) (L : Laws M) (p : List (Item M)) (keeps : Keeps M p) (roo
   -- every list of calls, while the reading is not over
   abbrev Together : List Call → Reading M → Board M → Type 0
   Together cs r b =
-      ((calls (reading_call M p) cs r).answers ≡ (calls (board_call M) cs b).answers) × (any answer_unfetched (calls (board_call M) cs b).answers ≡ false) ×
+      ((calls (reading_call M p) cs r).answers ≡ (calls (board_call M) cs b).answers) × (list_any answer_unfetched (calls (board_call M) cs b).answers ≡ false) ×
       Rel M p (calls (reading_call M p) cs r).left (calls (board_call M) cs b).left
 
   in_agreement : (cs : List Call) (r : Reading M) (b : Board M) → r.over ≡ false → Rel M p r b → (calls (reading_call M p) cs r).left.over ≡ false → Together cs r b
@@ -151,7 +152,7 @@ module _ (M : Machine) (L : Laws M) (p : List (Item M)) (keeps : Keeps M p) (roo
       go ih false k =
           let h = call c r b on rel in
           let i = ih k (h.rel k) in
-          (ap₂ ◌∷◌ (h.answer k) i.0, rw (h.fetched k, any) i.1, i.2)
+          (ap₂ ◌∷◌ (h.answer k) i.0, rw (h.fetched k, list_any) i.1, i.2)
 
   follows : (r : Reading M) (b : Board M) → r.over ≡ false → Rel M p r b → Follows M (λ cs. calls (reading_call M p) cs r) (λ cs. calls (board_call M) cs b)
   follows r b on rel =

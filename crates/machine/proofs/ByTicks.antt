@@ -5,7 +5,7 @@ use Rattle.machine.specs.Board.{Fault, Course, behind}
 use Rattle.machine.specs.Program.{Line, Item, image, line_at}
 use Rattle.machine.specs.Obligation.{Keeps}
 use Rattle.machine.specs.Reading.{Reading, current, spending, struck, read}
-use Rattle.machine.proofs.Facts.{ltb_yes, ltb_no}
+use Rattle.std.proofs.lemmas.Bool.{lt-ltb, le-ltb}
 use Rattle.machine.proofs.Placed.{line_does, line-valid}
 use Rattle.machine.proofs.Strokes.{stroke_fair}
 use Rattle.machine.proofs.Ticks.{tick, tick_zero, tick_over, tick_spend, tick_done, tick_halts, tick_refused, read-over, read-part, read_done, read_halts, read-refused}
@@ -44,7 +44,7 @@ module _ (M : Machine) (p : List (Item M)) where
       let v : suc r.u + d ≡ r.u + suc d = omega arith in
       let w : 1 + d ≡ suc d = omega arith in
       let ih = spends d m (spending M p r (suc r.u)) l (same_line M p r l e (suc r.u)) (omega arith) in
-      rw k (tick_spend M p (d + m) r l e (ltb_yes (suc r.u) (l.cost r.core) (omega arith)) ∙
+      rw k (tick_spend M p (d + m) r l e (lt-ltb (suc r.u) (l.cost r.core) (omega arith)) ∙
       (ap (behind 1) ih ∙ (behind-behind 1 d (tick M p m (spending M p r (suc r.u + d))) ∙ rw (v, w))))
 
   -- a run leaves a reading that is over, over
@@ -76,10 +76,10 @@ module _ (M : Machine) (p : List (Item M)) where
     first = rw whole (spends d (suc m) r l e (omega arith))
 
     full : ltb (suc n) (l.cost r.core - r.u) ≡ false
-    full = ltb_no (suc n) (l.cost r.core - r.u) (omega arith)
+    full = le-ltb (suc n) (l.cost r.core - r.u) (omega arith)
 
     last : ltb (suc (r.u + d)) (l.cost r.core) ≡ false
-    last = ltb_no (suc (r.u + d)) (l.cost r.core) (omega arith)
+    last = le-ltb (suc (r.u + d)) (l.cost r.core) (omega arith)
 
     whole-line : (o : Outcome M.Core M.Bus (Fault M.Refusal)) → l.stroke r.core r.bus ≡ o →
         ((c : M.Core) (b : M.Bus) (stores : List ℕ) → o ≡ Done c b stores → read M p turns m (struck M p r c b stores) ≡ tick M p m (struck M p r c b stores)) →

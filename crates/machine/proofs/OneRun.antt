@@ -1,10 +1,11 @@
 -- One run: the board, word by word, in step with the reading, tick by tick.
-use Rattle.std.proofs.Common.{◌≡◌, ℕ, zero, suc, ◌+◌, ◌-◌, ◌<◌, ◌≤◌, Bool, true, false, ltb, List, [], length, Some, None, Option, sym, refl, ap, ◌∙◌, subst, le_refl, arith, ltb-false, ltb-true}
-use Rattle.machine.specs.Machine.{Machine, Laws, Fair, Outcome, Done, Halts, Refused, outcome, any}
+use Rattle.std.proofs.Common.{◌≡◌, ℕ, zero, suc, ◌+◌, ◌-◌, ◌<◌, ◌≤◌, Bool, true, false, ◌||◌, ltb, List, [], length, Some, None, Option, sym, refl, ap, ◌∙◌, subst, le_refl, arith, ltb-false, ltb-true}
+use Rattle.std.specs.List.{list_any}
+use Rattle.machine.specs.Machine.{Machine, Laws, Fair, Outcome, Done, Halts, Refused, outcome}
 use Rattle.machine.specs.Board.{Fault, placed, Spent, Course, behind, Board, step, execute}
 use Rattle.machine.specs.Program.{Line, Item, image, in_line}
 use Rattle.machine.specs.Obligation.{word_at, insides, inside, and_then, Does, AllValid, Keeps}
-use Rattle.machine.specs.Reading.{Reading, either, current, spending, struck, stopped}
+use Rattle.machine.specs.Reading.{Reading, current, spending, struck, stopped}
 use Rattle.machine.specs.Calls.{unfetched, end_unfetched}
 use Rattle.machine.proofs.Facts.{true≢false}
 use Rattle.machine.proofs.Inside.{insides-zero, insides-suc, shorter, inside_word}
@@ -60,7 +61,7 @@ onward M p t s h =
 clash : (M : Machine) (p : List (Item M)) (r : Reading M) (l : Line M) → current M p r ≡ None → current M p r ≡ Some l → ⊥
 clash M p r l e k = let z : ◌≡◌ {A = ℕ} 0 1 = cc in omega arith
 
-not_hit : (s h : Bool) → either s h ≡ false → h ≡ false
+not_hit : (s h : Bool) → (s || h) ≡ false → h ≡ false
 not_hit true h e = absurd (true≢false e)
 not_hit false h e = e
 
@@ -176,7 +177,7 @@ module _ (M : Machine) (L : Laws M) (p : List (Item M)) (keeps : Keeps M p) (roo
               rw (tick_done M p n r l e k c' s' stores q, execute_done M n b c' s' stores (s ∙ q))
               (onward M p (tick M p n r') (execute M n b')
               (ih r' b' on (fresh r' b' refl refl h.held h.halted refl g.0 g.1.sound
-              (λ z. still_stand M p r.bus s' stores (h.stands (current-line M p r l e).0) g.1 (not_hit r.stored (any (in_line M p 0) stores) z)))))
+              (λ z. still_stand M p r.bus s' stores (h.stands (current-line M p r l e).0) g.1 (not_hit r.stored (list_any (in_line M p 0) stores) z)))))
           go (Halts c') q =
               let b' : Board M = record { core = c'; bus = b.bus; held = b.held; halted = true } in
               let g : Fair M {Why = Fault M.Refusal} r.bus (Halts c') = rw q at fine in

@@ -1,11 +1,13 @@
 -- A program in its place: where its lines and words stand, what the board fetches there, and that it stays so.
 use Rattle.std.proofs.Common.{◌≡◌, ℕ, suc, ◌+◌, ◌*◌, ◌<◌, ◌≤◌, Bool, true, false, eqb, ltb, leb, List, [], ◌∷◌, ◌++◌, length, get_or, Some, Ok, sym, refl, ap, ◌∙◌, subst, add_assoc, zero-add, arith, length-append, ltb-true, eqb-true}
+use Rattle.std.specs.List.{list_any}
 use lib.ListN.{get_or-append}
-use Rattle.machine.specs.Machine.{Machine, Laws, outcome, any, Shows}
+use Rattle.machine.specs.Machine.{Machine, Laws, outcome, Shows}
 use Rattle.machine.specs.Board.{fetch, step, placed}
 use Rattle.machine.specs.Program.{Line, Item, Code, Data, bytes, image, line_at, within, in_line, Stands}
 use Rattle.machine.specs.Obligation.{word_at, Does, AllValid, Owes, Keeps}
-use Rattle.machine.proofs.Facts.{true≢false, leb_yes, ltb_yes, ltb_no, any_apart}
+use Rattle.machine.proofs.Facts.{true≢false, any_apart}
+use Rattle.std.proofs.lemmas.Bool.{le-leb, lt-ltb, le-ltb}
 use Rattle.machine.proofs.Inside.{valid-at}
 
 -- the bytes of the instruction lines stand where the program has them
@@ -17,10 +19,10 @@ get_d_past [] ys j = rw zero-add refl
 get_d_past (x ∷ xs) ys j = let k : suc (length xs) + j ≡ suc (length xs + j) = omega arith in rw k (get_d_past xs ys j)
 
 within_yes : (a n x : ℕ) → a ≤ x → x < a + n → within a n x ≡ true
-within_yes a n x h k = rw (leb_yes a x h, within) (ltb_yes x (a + n) k)
+within_yes a n x h k = rw (le-leb a x h, within) (lt-ltb x (a + n) k)
 
 within_no : (a n x : ℕ) → a + n ≤ x → within a n x ≡ false
-within_no a n x h = rw (leb_yes a x (omega arith), within) (ltb_no x (a + n) h)
+within_no a n x h = rw (le-leb a x (omega arith), within) (le-ltb x (a + n) h)
 
 within_above : (a n x : ℕ) → within a n x ≡ true → x < a + n
 within_above a n x h = go (leb a x) h
@@ -155,5 +157,5 @@ module _ (M : Machine) where
   steps L p k b st a c l w e f = rw (fetches L p b st a (M.at c) l w e f (valid-at M l.words (line-valid p k a l e) a (M.at c) w f))
 
   -- what stores outside the instruction lines leaves them standing
-  pub still_stand : (p : List (Item M)) (b b' : M.Bus) (stores : List ℕ) → LinesStand M p b → Shows M b b' stores → any (in_line M p 0) stores ≡ false → LinesStand M p b'
+  pub still_stand : (p : List (Item M)) (b b' : M.Bus) (stores : List ℕ) → LinesStand M p b → Shows M b b' stores → list_any (in_line M p 0) stores ≡ false → LinesStand M p b'
   still_stand p b b' stores st s h x i = s.same x (any_apart (in_line M p 0) x i stores h) ∙ st x i

@@ -1,6 +1,7 @@
 -- Board against reading: what is promised of every list of calls.
 use Rattle.std.specs.Prelude.{◌≡◌, ℕ, ◌<◌, ◌≤◌, true, false, List, [], ◌∷◌, ◌++◌, length}
-use Rattle.machine.specs.Machine.{Machine, any}
+use Rattle.std.specs.List.{list_any}
+use Rattle.machine.specs.Machine.{Machine}
 use Rattle.machine.specs.Board.{End, Spent, started}
 use Rattle.machine.specs.Program.{Item, image, Stands}
 use Rattle.machine.specs.Obligation.{Keeps}
@@ -11,7 +12,7 @@ use Rattle.machine.specs.Calls.{Call, Run, Ran, ReadingTranscript, BoardTranscri
 -- and where no line is begun, the cores.
 pub record Agree (M : Machine) (read : ReadingTranscript M) (ran : BoardTranscript M) : Type 0 where
   pub answers : read.answers ≡ ran.answers
-  pub fetched : any answer_unfetched ran.answers ≡ false
+  pub fetched : list_any answer_unfetched ran.answers ≡ false
   pub bus : read.left.bus ≡ ran.left.bus
   pub halted : read.left.halted ≡ ran.left.halted
   pub core : read.left.u ≡ 0 → read.left.core ≡ ran.left.core

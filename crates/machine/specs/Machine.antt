@@ -1,5 +1,6 @@
 -- A machine: a core with a next address, a bus, and words, each of which does something to the two.
-use Rattle.std.specs.Prelude.{◌≡◌, ℕ, Bool, true, false, List, [], ◌∷◌, Some, Ok, Option, Result, nat_eq}
+use Rattle.std.specs.Prelude.{◌≡◌, ℕ, false, List, [], Some, Ok, Option, Result, nat_eq}
+use Rattle.std.specs.List.{list_any}
 
 -- What a word, or a whole line, comes to: done, with the core and the bus after it and the address of each byte that it stored;
 -- halted, with the core at which it halts; or refused, with why.
@@ -17,11 +18,6 @@ pub data Act (Core Bus Why : Type 0) : Type 0 where
 abbrev pub outcome : {Core Bus Why : Type 0} → Act Core Bus Why → Bus → Outcome Core Bus Why
 outcome (Quiet c) b = Done c b []
 outcome (Asks f) b = f b
-
--- Does some element of a list pass a test?
-abbrev pub any : {A : Type 0} → (A → Bool) → List A → Bool
-any test [] = false
-any test (x ∷ xs) = elim (test x) [ true ↦ true | false ↦ any test xs ]
 
 -- A machine of any word size.
 pub record Machine : Type 1 where
@@ -54,7 +50,7 @@ pub record Machine : Type 1 where
 -- From the bus b, stores led to the bus b': it is sound, and shows the same bytes but those stored.
 pub record Shows (M : Machine) (b b' : M.Bus) (stores : List ℕ) : Type 0 where
   pub sound : M.Sound b'
-  pub same : (x : ℕ) → any (nat_eq x) stores ≡ false → M.peek b' x ≡ M.peek b x
+  pub same : (x : ℕ) → list_any (nat_eq x) stores ≡ false → M.peek b' x ≡ M.peek b x
 
 -- An outcome on the bus b is fair: it leaves a core that fits, and changes no shown byte but those that it stored.
 abbrev pub Fair : (M : Machine) {Why : Type 0} → M.Bus → Outcome M.Core M.Bus Why → Type 0

@@ -1,6 +1,7 @@
 -- The reading: the meaning of a program, line by line. It sees lines, and never fetches a word.
-use Rattle.std.specs.Prelude.{ℕ, zero, suc, ◌+◌, ◌-◌, Bool, true, false, List, Some, None, Option, nat_lt}
-use Rattle.machine.specs.Machine.{Machine, Done, Halts, Refused, any}
+use Rattle.std.specs.Prelude.{ℕ, zero, suc, ◌+◌, ◌-◌, Bool, true, false, ◌||◌, List, Some, None, Option, nat_lt}
+use Rattle.std.specs.List.{list_any}
+use Rattle.machine.specs.Machine.{Machine, Done, Halts, Refused}
 use Rattle.machine.specs.Board.{Halted, Spent, Faulted, Course, behind, asked, unless}
 use Rattle.machine.specs.Program.{Line, Item, line_at, in_line}
 
@@ -18,11 +19,6 @@ pub record Reading (M : Machine) : Type 0 where
 abbrev pub opened : (M : Machine) → M.Core → M.Bus → Reading M
 opened M c b = record { core = c; bus = b; halted = false; stored = false; u = 0; over = false }
 
--- Is one of two things so?
-abbrev pub either : Bool → Bool → Bool
-either true y = true
-either false y = y
-
 module _ (M : Machine) (program : List (Item M)) where
   -- The line to execute: the one that begins at the next address. There is none where no line begins there, or the stored mark is set.
   unfoldable pub current : Reading M → Option (Line M)
@@ -35,7 +31,7 @@ module _ (M : Machine) (program : List (Item M)) where
   -- The reading after a line that is done: the stored mark is set if one of the stored bytes lies in an instruction line.
   abbrev pub struck : Reading M → M.Core → M.Bus → List ℕ → Reading M
   struck r c b stores =
-      record { core = c; bus = b; halted = r.halted; stored = either r.stored (any (in_line M program 0) stores); u = 0; over = r.over }
+      record { core = c; bus = b; halted = r.halted; stored = r.stored || list_any (in_line M program 0) stores; u = 0; over = r.over }
 
   -- The reading after a line that halts.
   abbrev pub stopped : Reading M → M.Core → Reading M

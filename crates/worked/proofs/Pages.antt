@@ -8,7 +8,8 @@ use Rattle.machine.specs.Calls.{board_call, reading_call}
 use Rattle.machine.specs.Agreement.{Follows}
 use Rattle.worked.specs.Worked.{Size, Two, Four, modulus, put, writes, give, take, load, store, byte_at, Place, CharacterPort, InputPort, Nothing, Cell, Bytes, Sound, worked, Hcf, One, Ldi, LdwAt, StwAt, Lsrm, LsrmOrNone}
 use Rattle.worked.specs.Page.{blank, port, place_of, bus_of, reads, runs, shift_and_send, own_line_rows, longest, shift_twice, nothing_behind, data_behind, FirstPage, OwnLinePage, OffTheLinesPage, FourBytesPage, PagesFollow}
-use Rattle.machine.proofs.Facts.{true≢false, ltb_yes}
+use Rattle.machine.proofs.Facts.{true≢false}
+use Rattle.std.proofs.lemmas.Bool.{lt-ltb}
 use Rattle.machine.proofs.AllCalls.{agreement}
 use Rattle.worked.specs.WorkedLaws.{worked_laws}
 use Rattle.worked.proofs.WorkedRows.{rows}
@@ -75,7 +76,7 @@ module _ (z : Size) (p : List (Item (worked z))) where
       near x false = far x (ltb x 0xF000)
 
   image-stands : Stands (worked z) p (bus_of z p)
-  image-stands x h = rw (ltb_yes x (length (image (worked z) p)) h, place_of)
+  image-stands x h = rw (lt-ltb x (length (image (worked z) p)) h, place_of)
 
   page_follows : Keeps (worked z) p → all_bytes (image (worked z) p) ≡ true → length (image (worked z) p) ≤ modulus z → 0 < modulus z → Follows (worked z) (reads z p) (runs z p)
   unfolding reads runs

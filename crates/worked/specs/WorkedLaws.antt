@@ -1,10 +1,10 @@
 -- The worked machine keeps the laws of a machine.
 use Rattle.std.specs.Prelude.{◌≡◌, ℕ, zero, suc, ◌+◌, ◌-◌, ◌*◌, ◌/◌, ◌%◌, ◌^◌, ◌<◌, Bool, true, false, not, ◌≢◌, List, [], ◌∷◌, ◌++◌, length, get_or, Some, None, Ok, Err, Result, ◌==◌, nat_eq, nat_lt, slice_index_or}
-use Rattle.std.specs.List.{range_with_len}
+use Rattle.std.specs.List.{list_any, range_with_len}
 use Rattle.std.proofs.Math.Path.{refl, fun_ext}
 use Rattle.std.proofs.Common.{sym, ◌∙◌, ap, ap₂, arith, eqb-true, eq-eqb, ne_eqb}
 use Rattle.std.proofs.lemmas.Bool.{eqb-false}
-use Rattle.machine.specs.Machine.{any, Shows, Fair, FairAct, Laws}
+use Rattle.machine.specs.Machine.{Shows, Fair, FairAct, Laws}
 use Rattle.worked.specs.Worked.{Size, Two, Four, width, modulus, Registers, put, Core, Place, Cell, Fixed, CharacterPort, InputPort, Nothing, Bus, Refusal, shown, byte_at, over, writes, gathered, parts, on_waiting, on_sent, peek, given, give, oldest, take, received, sends, even, load_from, load, store_to, store, Word, Ldc, Lsr, Sub, Bez, Bnz, Ldw, Stw, Hcf, fields, Valid, table, decode, branch, loaded, stored, act, Fits, Bytes, Sound, worked}
 use Rattle.machine.proofs.Facts.{any_not}
 
@@ -90,7 +90,7 @@ writes_small m (suc n) v a x h = go (writes_small m n v (a + 1) x h) (x == a)
     go ih true = over_small (m x) (v / 256 ^ n % 256) h (omega arith)
     go ih false = ih
 
-writes_other : (m : ℕ → Place) (n v a x : ℕ) → any (nat_eq x) (range_with_len a n) ≡ false → writes m a (parts n v) x ≡ m x
+writes_other : (m : ℕ → Place) (n v a x : ℕ) → list_any (nat_eq x) (range_with_len a n) ≡ false → writes m a (parts n v) x ≡ m x
 unfolding writes
 writes_other m zero v a x h = refl
 writes_other m (suc n) v a x h =
