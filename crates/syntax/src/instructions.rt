@@ -2,14 +2,11 @@
 ghost use Rattle.std.specs.Prelude.{◌≡◌};
 ghost use Rattle.syntax.specs.Rows.{fits_byte, fits_word, fits_value, in_range, registers_fit, asked, judged, row_of, said_value, said_row, mapped_ok};
 ghost use Rattle.syntax.specs.Operands.{said_all};
-ghost use Rattle.word.specs.Registers.{register as numbered};
-ghost use Rattle.word.specs.Table.{row};
-ghost use Rattle.word.specs.Words.{keeps_zero};
 
 use crate::mnemonics::Mnemonic;
 use crate::operands::Operands;
 use crate::rows::{InstructionFault, Row, Value, row_of};
-use word::{Extension, Operation, Register};
+use word::Extension;
 
 /// An instruction taken apart.
 #[derive(Clone, Copy)]
@@ -55,26 +52,17 @@ fn in_range(row: Row<'_>) -> bool
     }
 }
 
-fn keeps_zero(operation: Operation, a: u8, b: u8, c: u8) -> bool
-    ensures { result ≡ keeps_zero (row operation).shape (numbered a) (numbered b) (numbered c) }
-{
-    let rst = Register::of_bits(a as u16);
-    let rsa = Register::of_bits(b as u16);
-    let rsb = Register::of_bits(c as u16);
-    operation.mnemonic().shape.keeps_zero(rst, rsa, rsb)
-}
-
 fn registers_fit(row: Row<'_>) -> bool
     ensures { result ≡ registers_fit (said_row row.entry) }
 {
     match row {
-        Row::Registers(operation, a, b, c) => keeps_zero(operation, a, b, c),
+        Row::Registers(operation, a, b, c) => operation.mnemonic().shape.keeps_zero(a, b, c),
         Row::Immediate(..) | Row::Constant(..) => true,
-        Row::Negation(r) => r % 8 != 0,
-        Row::LoadFrom(_, r, _) => r % 8 != 0,
-        Row::StoreTo(_, r, _) => r % 8 != 0,
-        Row::BranchTo(_, r, _) => r % 8 != 0,
-        Row::LongShift(_, r, s) => r % 8 != s % 8,
+        Row::Negation(r) => r.number() != 0,
+        Row::LoadFrom(_, r, _) => r.number() != 0,
+        Row::StoreTo(_, r, _) => r.number() != 0,
+        Row::BranchTo(_, r, _) => r.number() != 0,
+        Row::LongShift(_, r, s) => r.number() != s.number(),
     }
 }
 

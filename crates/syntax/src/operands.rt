@@ -9,11 +9,11 @@ ghost use Rattle.syntax.specs.Numbers.{held_number};
 use crate::cuts::{Separator, cut};
 use crate::names::{is_name, read_register};
 use crate::numbers::read_number;
+use word::Register;
 
-/// A register is held by its number: its own type has its bound in a ghost field, and cannot stand beside a reference.
 #[derive(Clone, Copy)]
 pub enum Operand<'a> {
-    Register(u8),
+    Register(Register),
     Number(i64),
     Name(&'a [u8]),
 }
@@ -31,7 +31,7 @@ fn read_operand(text: &[u8]) -> Option<Operand<'_>>
     ensures { option_map said result ≡ operand_by held_number text.now }
 {
     if let Some(register) = read_register(text) {
-        return Some(Operand::Register(register.number()));
+        return Some(Operand::Register(register));
     }
     if is_name(text) {
         return Some(Operand::Name(text));
