@@ -1,9 +1,11 @@
 -- A number read with a bound.
-use Rattle.std.proofs.Common.{◌≡◌, ℕ, zero, suc, ◌+◌, ◌-◌, ◌*◌, ◌<◌, ◌≤◌, min, Bool, true, false, cond, ltb, List, [], ◌∷◌, length, get_or, drop, Some, None, Option, sym, refl, ap, ◌∙◌, ⊎_elim, mul-le-mul_right, le-mul_of_pos_right, arith}
+use Rattle.std.proofs.Common.{◌≡◌, ℕ, zero, suc, ◌+◌, ◌-◌, ◌*◌, ◌<◌, ◌≤◌, min, Bool, true, false, cond, ltb, List, [], ◌∷◌, length, get_or, drop, Some, None, Option, sym, refl, ap, ◌∙◌, ◌⊎◌, ⊎_elim, mul-le-mul_right, le-mul_of_pos_right, arith}
 use mathlib.Core.Path.{subst⁻¹}
 use Rattle.std.proofs.lemmas.List.{at_drop_more, at_drop_all}
+use Rattle.std.proofs.lemmas.Bool.Decides.{nat_tests}
 use Rattle.std.proofs.lemmas.Bool.{cases_lt, cond-false, ne_eqb}
-use Rattle.std.specs.Option.{option_map}
+use Rattle.std.specs.Char.{digit_value}
+use Rattle.std.specs.Option.{option_map, SomeIff}
 use Rattle.syntax.specs.Characters.{is}
 use Rattle.syntax.specs.Numbers.{worth, digit_in, digits_after, digits, magnitude, signed, number, bound, held, capped, capped_number}
 
@@ -27,6 +29,20 @@ capped-on base n (c ∷ cs) h =
           ∙ capped-on base (n * base + worth c) cs h
       | false ↦ refl
     ]
+
+-- in a base up to 16, `to_digit` gives what the digit is worth
+worth-value : (c : ℕ) → (digit_value c ≡ worth c) ⊎ ((16 ≤ digit_value c) × (16 ≤ worth c))
+worth-value c = grind (arith, nat_tests)
+
+pub digit-in : (base c : ℕ) (o : Option ℕ) → base ≤ 16 → SomeIff o (digit_value c < base) (digit_value c) → o ≡ digit_in base c
+digit-in base c None h e = by (worth c) (worth-value c)
+  where
+    by : (w : ℕ) → (digit_value c ≡ w) ⊎ ((16 ≤ digit_value c) × (16 ≤ w)) → None ≡ cond (ltb w base) (Some w) None
+    by w v = grind (arith, nat_tests)
+digit-in base c (Some d) h e = by (worth c) (worth-value c)
+  where
+    by : (w : ℕ) → (digit_value c ≡ w) ⊎ ((16 ≤ digit_value c) × (16 ≤ w)) → Some d ≡ cond (ltb w base) (Some w) None
+    by w v = grind (arith, nat_tests)
 
 -- one more digit
 pub step : (base n i d : ℕ) (xs : List ℕ) → 0 < base → i < length xs → Some d ≡ digit_in base (get_or xs i 0)

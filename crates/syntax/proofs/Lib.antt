@@ -1,5 +1,4 @@
 pub mod Steps
-pub mod Every
 pub mod Caps
 pub mod Firsts
 pub mod Held

@@ -1,5 +1,6 @@
 -- How long the parts of a line are.
 use Rattle.std.proofs.Common.{◌≡◌, ℕ, suc, ◌≤◌, Bool, true, false, cond, not, ◌&&◌, leb, List, [], ◌∷◌, length, is_some, IfOk, Some, None, Ok, Err, Option, Result, sym, refl, ap, subst, arith}
+use Rattle.std.specs.List.{list_all}
 use Rattle.std.proofs.lemmas.Bool.Decides.{nat_tests}
 use Rattle.syntax.specs.declared.cuts.Separator.{Separator}
 use Rattle.syntax.specs.declared.cuts.Separator.TheVariants.{Blank}
@@ -10,7 +11,7 @@ use Rattle.syntax.specs.declared.statements.Beginning.TheVariants.{Semicolon, Ta
 use Rattle.syntax.specs.declared.statements.LineFault.{LineFault}
 use Rattle.syntax.specs.declared.statements.LineFault.TheVariants.{BadCharacters, BadLabel}
 use Rattle.syntax.specs.declared.statements.Statement as Code
-use Rattle.syntax.specs.Characters.{parts, every}
+use Rattle.syntax.specs.Characters.{parts}
 use Rattle.syntax.specs.Cuts.{before, behind}
 use Rattle.syntax.specs.Names.{begins, goes_on, has_name_form, is_name, register_in}
 use Rattle.syntax.specs.Numbers.{number}
@@ -28,8 +29,8 @@ name_short : (t : List ℕ) → is_name t ≡ true → length t ≤ 32
 name_short [] h = omega arith
 name_short (c ∷ cs) h =
     let a = both (has_name_form (c ∷ cs)) (not (is_some (register_in (c ∷ cs)))) h in
-    let b = both (begins c) (every goes_on cs && leb (length cs) 31) a.0 in
-    let d = both (every goes_on cs) (leb (length cs) 31) b.1 in
+    let b = both (begins c) (list_all goes_on cs && leb (length cs) 31) a.0 in
+    let d = both (list_all goes_on cs) (leb (length cs) 31) b.1 in
     let small : length cs ≤ 31 = grind (arith, nat_tests) in
     let x : length (c ∷ cs) ≡ suc (length cs) = refl in
     omega arith
@@ -77,7 +78,7 @@ statement_short l s e = by (is_clean l) refl e
   where
     by : (b : Bool) → is_clean l ≡ b → said_by (cond b (kind_by number l) (Err BadCharacters)) ≡ Ok s → (length l ≤ 120) × Short (length l) s
     by true c e =
-        let p = both (leb (length l) 120) (every is_plain l) c in
+        let p = both (leb (length l) 120) (list_all is_plain l) c in
         let h : length l ≤ 120 = grind (arith, nat_tests) in
         (h, kind_short l s e)
     by false c e = absurd (let z : ◌≡◌ {A = ℕ} 0 1 = cc in omega arith)

@@ -1,6 +1,6 @@
 -- Characters, as bytes.
 use Prim.Native.String.{String}
-use Rattle.std.specs.Prelude.{ℕ, Bool, true, ◌&&◌, ◌||◌, List, [], ◌∷◌, codes, ◌==◌, nat_le, slice_index}
+use Rattle.std.specs.Prelude.{ℕ, Bool, ◌&&◌, ◌||◌, codes, ◌==◌, nat_le, slice_index}
 use Rattle.syntax.specs.declared.cuts.Separator.{Separator}
 use Rattle.syntax.specs.declared.cuts.Separator.TheVariants.{LineFeed, Blank, Space, Comma, Quote}
 
@@ -22,8 +22,3 @@ parts Blank c = is " " c || is "\t" c
 parts Space c = is " " c
 parts Comma c = is "," c
 parts Quote c = is "\"" c
-
--- Does each byte pass?
-abbrev pub every : (ℕ → Bool) → List ℕ → Bool
-every p [] = true
-every p (c ∷ cs) = p c && every p cs

@@ -1,5 +1,6 @@
 -- Data behind a label: a string in double quotes, or numbers with one space between.
-use Rattle.std.specs.Prelude.{ℕ, ◌-◌, ◌/◌, ◌%◌, Bool, true, false, cond, ◌&&◌, List, [], ◌∷◌, ◌++◌, length, ℤ, pos, negsuc, Some, None, Option, ◌==◌}
+use Rattle.std.specs.Prelude.{ℕ, ◌-◌, ◌/◌, ◌%◌, Bool, false, cond, List, [], ◌∷◌, ◌++◌, length, ℤ, pos, negsuc, Some, None, Option, ◌==◌}
+use Rattle.std.specs.List.{list_all}
 use Rattle.syntax.specs.declared.cuts.Separator.TheVariants.{Space, Quote}
 use Rattle.syntax.specs.declared.data.Data.{Data}
 use Rattle.syntax.specs.declared.data.Data.TheVariants.{Text, Numbers}
@@ -30,8 +31,7 @@ fits None = false
 fits (Some z) = fits_word z
 
 abbrev pub all_fit : List (List ℕ) → Bool
-all_fit [] = true
-all_fit (p ∷ ps) = fits (number p) && all_fit ps
+all_fit ps = list_all (λ p. fits (number p)) ps
 
 -- Each number as one word.
 abbrev pub value_of : Option ℤ → ℕ

@@ -1,9 +1,10 @@
 -- Registers and names.
 use Rattle.std.specs.Prelude.{ℕ, ◌-◌, Bool, false, cond, not, ◌&&◌, ◌||◌, List, [], ◌∷◌, length, is_some, Some, None, Option, nat_le}
+use Rattle.std.specs.List.{list_all}
 use Rattle.std.specs.Option.{option_map}
 use Rattle.word.specs.declared.registers.Register.{Register}
 use Rattle.word.specs.Registers.{register}
-use Rattle.syntax.specs.Characters.{byte, is, from, every}
+use Rattle.syntax.specs.Characters.{byte, is, from}
 
 -- r0 to r7, and other names for four of them: at is 0, sr 5, lr 6, sp 7.
 abbrev pub register_number : ℕ → ℕ → Option ℕ
@@ -31,7 +32,7 @@ goes_on c = begins c || from "0" "9" c
 -- It has at most 32 bytes, and is no register.
 abbrev pub has_name_form : List ℕ → Bool
 has_name_form [] = false
-has_name_form (c ∷ cs) = begins c && (every goes_on cs && nat_le (length cs) 31)
+has_name_form (c ∷ cs) = begins c && (list_all goes_on cs && nat_le (length cs) 31)
 
 abbrev pub is_name : List ℕ → Bool
 is_name t = has_name_form t && not (is_some (register_in t))

@@ -1,5 +1,6 @@
 -- Lines: what each says, and the questions that a line answers by itself.
 use Rattle.std.specs.Prelude.{ℕ, Bool, cond, ◌&&◌, ◌||◌, List, [], ◌∷◌, length, ℤ, Some, None, Ok, Err, Option, Result, nat_le}
+use Rattle.std.specs.List.{list_all}
 use Rattle.std.specs.Option.{option_map}
 use Rattle.syntax.specs.declared.cuts.Separator.TheVariants.{Blank}
 use Rattle.syntax.specs.declared.mnemonics.Mnemonic.{Mnemonic}
@@ -13,7 +14,7 @@ use Rattle.syntax.specs.declared.statements.Line as CodeLine
 use Rattle.syntax.specs.declared.statements.Line.TheVariants as L
 use Rattle.syntax.specs.declared.statements.Statement as CodeStatement
 use Rattle.syntax.specs.declared.statements.Statement.TheVariants as S
-use Rattle.syntax.specs.Characters.{is, from, every}
+use Rattle.syntax.specs.Characters.{is, from}
 use Rattle.syntax.specs.Cuts.{before, behind}
 use Rattle.syntax.specs.Names.{is_name}
 use Rattle.syntax.specs.Numbers.{number}
@@ -26,7 +27,7 @@ abbrev pub is_plain : ℕ → Bool
 is_plain c = is "\t" c || from " " "~" c
 
 abbrev pub is_clean : List ℕ → Bool
-is_clean l = nat_le (length l) 120 && every is_plain l
+is_clean l = nat_le (length l) 120 && list_all is_plain l
 
 -- A line taken apart: empty, a comment, a label with what stands behind its separator, or an instruction.
 pub data Line : Type 0 where

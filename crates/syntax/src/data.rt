@@ -3,7 +3,7 @@ ghost use Rattle.std.specs.Prelude.{◌≡◌, ◌+◌, ◌*◌, ◌≤◌, leng
 ghost use Rattle.std.specs.Option.{option_map};
 ghost use Rattle.syntax.specs.Cuts.{pieces};
 ghost use Rattle.syntax.specs.Data.{fits, all_fit, string_in, numbers_in, data_in, data_bytes, said_data};
-ghost use Rattle.syntax.specs.Numbers.{number, held_number};
+ghost use Rattle.syntax.specs.Numbers.{number};
 ghost use Rattle.syntax.specs.declared.cuts.Separator.TheVariants.{Space};
 
 use crate::cuts::{Separator, cut};
@@ -19,65 +19,32 @@ pub enum Data<'a> {
     Numbers(&'a [u8]),
 }
 
-fn fits_held(text: &[u8]) -> bool
-    ensures { result ≡ fits (held_number text.now) }
-{
-    match read_number(text) {
-        Some(n) => fits_word(n),
-        None => false,
-    }
-}
-
 fn is_data_number(text: &[u8]) -> bool
     ensures { result ≡ fits (number text.now) }
 {
-    fits_held(text)
+    read_number(text).is_some_and(fits_word)
 }
 
 fn all_fit(text: &[u8]) -> bool
     ensures { result ≡ all_fit (pieces Space text.now) }
 {
-    let mut left = Some(text);
-    while let Some(rest) = left {
-        let (piece, behind) = cut(rest, Separator::Space);
-        if !is_data_number(piece) {
-            return false;
-        }
-        left = behind;
-    }
-    true
+    text.split(|b| Separator::Space.parts(*b))
+        .all(is_data_number)
 }
 
 fn read_string(text: &[u8]) -> Option<Data<'_>>
     ensures { option_map said_data result ≡ string_in text.now }
 {
-    let (inside, behind) = cut(text, Separator::Quote);
-    let behind = behind?;
-    if behind.is_empty() {
-        Some(Data::Text(inside))
-    } else {
-        None
+    match cut(text, Separator::Quote) {
+        (inside, Some([])) => Some(Data::Text(inside)),
+        _ => None,
     }
 }
 
 fn read_numbers(text: &[u8]) -> Option<Data<'_>>
     ensures { option_map said_data result ≡ numbers_in text.now }
 {
-    if all_fit(text) {
-        Some(Data::Numbers(text))
-    } else {
-        None
-    }
-}
-
-fn read_well_formed(text: &[u8]) -> Option<Data<'_>>
-    ensures { option_map said_data result ≡ data_in text.now }
-{
-    let (first, rest) = text.split_first()?;
-    match *first as char {
-        '"' => read_string(rest),
-        _ => read_numbers(text),
-    }
+    all_fit(text).then_some(Data::Numbers(text))
 }
 
 /// The data behind a label and its separator, or `None` where it is not well formed or a number is out of range.
@@ -85,20 +52,17 @@ pub fn read_data(text: &[u8]) -> Option<Data<'_>>
     ensures value { option_map said_data result ≡ data_in text.now }
     ensures size { IfSome result (λ d. length (data_bytes (said_data d)) ≤ length text.now + 1) }
 {
-    read_well_formed(text)
+    let (first, rest) = text.split_first()?;
+    match char::from(*first) {
+        '"' => read_string(rest),
+        _ => read_numbers(text),
+    }
 }
 
 fn count_pieces(text: &[u8]) -> usize
     ensures { result ≡ length (pieces Space text.now) }
 {
-    let mut n = 0;
-    let mut left = Some(text);
-    while let Some(rest) = left {
-        let (_, behind) = cut(rest, Separator::Space);
-        n += 1;
-        left = behind;
-    }
-    n
+    text.split(|b| Separator::Space.parts(*b)).count()
 }
 
 impl Data<'_> {

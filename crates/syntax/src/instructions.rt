@@ -20,15 +20,15 @@ fn fits_byte(extension: Extension, n: i64) -> bool
 {
     match extension {
         Extension::Absent => false,
-        Extension::ZeroExtended => 0 <= n && n <= 255,
-        Extension::SignExtended => -128 <= n && n <= 127,
+        Extension::ZeroExtended => (0..=255).contains(&n),
+        Extension::SignExtended => (-128..=127).contains(&n),
     }
 }
 
 pub fn fits_word(n: i64) -> bool
     ensures { result ≡ fits_word n }
 {
-    -32768 <= n && n <= 65535
+    (-32768..=65535).contains(&n)
 }
 
 fn fits_value(value: Value<'_>) -> bool
@@ -45,9 +45,9 @@ fn in_range(row: Row<'_>) -> bool
 {
     match row {
         Row::Immediate(operation, _, n) => fits_byte(operation.mnemonic().immediate, n),
-        Row::Constant(_, value) => fits_value(value),
-        Row::LoadFrom(_, _, value) => fits_value(value),
-        Row::StoreTo(_, _, value) => fits_value(value),
+        Row::Constant(_, value) | Row::LoadFrom(_, _, value) | Row::StoreTo(_, _, value) => {
+            fits_value(value)
+        }
         Row::Registers(..) | Row::Negation(_) | Row::BranchTo(..) | Row::LongShift(..) => true,
     }
 }
@@ -58,10 +58,10 @@ fn registers_fit(row: Row<'_>) -> bool
     match row {
         Row::Registers(operation, a, b, c) => operation.mnemonic().shape.keeps_zero(a, b, c),
         Row::Immediate(..) | Row::Constant(..) => true,
-        Row::Negation(r) => r.number() != 0,
-        Row::LoadFrom(_, r, _) => r.number() != 0,
-        Row::StoreTo(_, r, _) => r.number() != 0,
-        Row::BranchTo(_, r, _) => r.number() != 0,
+        Row::Negation(r)
+        | Row::LoadFrom(_, r, _)
+        | Row::StoreTo(_, r, _)
+        | Row::BranchTo(_, r, _) => r.number() != 0,
         Row::LongShift(_, r, s) => r.number() != s.number(),
     }
 }
@@ -83,9 +83,7 @@ impl<'a> Instruction<'a> {
     pub fn row(self) -> Result<Row<'a>, InstructionFault>
         ensures { mapped_ok said_row result ≡ judged (row_of self.entry.mnemonic (said_all self.entry.operands)) }
     {
-        match row_of(self.mnemonic, self.operands) {
-            None => Err(InstructionFault::NoSuchRow),
-            Some(row) => asked(row),
-        }
+        let row = row_of(self.mnemonic, self.operands).ok_or(InstructionFault::NoSuchRow)?;
+        asked(row)
     }
 }

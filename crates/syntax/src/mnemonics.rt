@@ -56,12 +56,7 @@ impl PseudoName {
 fn find_pseudo(table: &[PseudoName], text: &[u8]) -> Option<Pseudo>
     ensures { result ≡ first (is_text text.now) (map entry_in table.now) }
 {
-    for p in table {
-        if p.is_text(text) {
-            return Some(p.pseudo);
-        }
-    }
-    None
+    table.iter().find(|p| p.is_text(text)).map(|p| p.pseudo)
 }
 
 fn pseudo_named(text: &[u8]) -> Option<Pseudo>
@@ -74,11 +69,7 @@ fn pseudo_named(text: &[u8]) -> Option<Pseudo>
 pub fn read_mnemonic(text: &[u8]) -> Option<Mnemonic>
     ensures { result ≡ mnemonic_in text.now }
 {
-    if let Some(operation) = Operation::named(text) {
-        return Some(Mnemonic::OfWord(operation));
-    }
-    match pseudo_named(text) {
-        Some(pseudo) => Some(Mnemonic::OfPseudo(pseudo)),
-        None => None,
-    }
+    Operation::named(text)
+        .map(Mnemonic::OfWord)
+        .or_else(|| pseudo_named(text).map(Mnemonic::OfPseudo))
 }

@@ -1,15 +1,16 @@
 // Registers and names.
-ghost use Rattle.std.specs.Prelude.{◌≡◌};
-ghost use Rattle.syntax.specs.Characters.{every};
+ghost use Rattle.std.specs.Prelude.{◌≡◌, ◌<◌, IfSome};
+ghost use Rattle.std.specs.List.{list_all};
 ghost use Rattle.syntax.specs.Names.{register_number, register_in, begins, goes_on, has_name_form, is_name};
 
 use word::Register;
 
-fn register_number(first: char, second: char) -> Option<u16>
-    ensures { result ≡ register_number first second }
+fn register_number(first: char, second: char) -> Option<u32>
+    ensures number { result ≡ register_number first second }
+    ensures small { IfSome result (λ n. n < 8) }
 {
     match (first, second) {
-        ('r', '0'..='7') => Some((second as u32 - '0' as u32) as u16),
+        ('r', _) => second.to_digit(8),
         ('a', 't') => Some(0),
         ('s', 'r') => Some(5),
         ('l', 'r') => Some(6),
@@ -25,46 +26,34 @@ pub fn read_register(text: &[u8]) -> Option<Register>
     let [first, second] = text else {
         return None;
     };
-    let number = register_number(*first as char, *second as char)?;
-    Some(Register::of_bits(number))
+    let number = register_number(char::from(*first), char::from(*second))?;
+    Some(Register::of_bits(number as u16))
 }
 
 fn may_begin(c: char) -> bool
     ensures { result ≡ begins c }
 {
-    match c {
-        'a'..='z' | 'A'..='Z' | '_' => true,
-        _ => false,
-    }
+    matches!(c, 'a'..='z' | 'A'..='Z' | '_')
 }
 
 fn may_go_on(c: char) -> bool
     ensures { result ≡ goes_on c }
 {
-    match c {
-        'a'..='z' | 'A'..='Z' | '_' | '0'..='9' => true,
-        _ => false,
-    }
+    may_begin(c) || c.is_ascii_digit()
 }
 
 fn all_go_on(text: &[u8]) -> bool
-    ensures { result ≡ every goes_on text.now }
+    ensures { result ≡ list_all goes_on text.now }
 {
-    for b in text {
-        if !may_go_on(*b as char) {
-            return false;
-        }
-    }
-    true
+    text.iter().all(|b| may_go_on(char::from(*b)))
 }
 
 fn has_name_form(text: &[u8]) -> bool
     ensures { result ≡ has_name_form text.now }
 {
-    match text.split_first() {
-        Some((first, rest)) => may_begin(*first as char) && all_go_on(rest) && rest.len() <= 31,
-        None => false,
-    }
+    text.split_first().is_some_and(|(first, rest)| {
+        may_begin(char::from(*first)) && all_go_on(rest) && rest.len() <= 31
+    })
 }
 
 /// Whether these bytes are a name.

@@ -36,11 +36,10 @@ fn read_operand(text: &[u8]) -> Option<Operand<'_>>
     if is_name(text) {
         return Some(Operand::Name(text));
     }
-    let number = read_number(text)?;
-    Some(Operand::Number(number))
+    Some(Operand::Number(read_number(text)?))
 }
 
-fn read_some<'a>(text: &'a [u8]) -> Option<Operands<'a>>
+fn read_some(text: &[u8]) -> Option<Operands<'_>>
     ensures { option_map said_all result ≡ after_none held_number (pieces Comma text.now) }
 {
     let (part, rest) = cut(text, Separator::Comma);
@@ -62,7 +61,7 @@ fn read_some<'a>(text: &'a [u8]) -> Option<Operands<'a>>
 }
 
 /// The operands behind a mnemonic and its separator, or `None` where they are malformed or more than three.
-pub fn read_operands<'a>(text: Option<&'a [u8]>) -> Option<Operands<'a>>
+pub fn read_operands(text: Option<&[u8]>) -> Option<Operands<'_>>
     ensures { option_map said_all result ≡ operands_by held_number (option_map (λ x. x.now) text.entry) }
 {
     match text {

@@ -50,10 +50,10 @@ pub enum Row<'a> {
 /// Why an instruction was refused.
 #[derive(Clone, Copy)]
 pub enum InstructionFault {
-    UnknownMnemonic,
-    NoSuchRow,
-    OutOfRange,
-    WrongRegister,
+    UnknownMnemonic = 9,
+    NoSuchRow = 10,
+    OutOfRange = 11,
+    WrongRegister = 12,
 }
 
 impl InstructionFault {
@@ -61,12 +61,7 @@ impl InstructionFault {
     pub fn number(self) -> u8
         ensures { result ≡ number_of self }
     {
-        match self {
-            InstructionFault::UnknownMnemonic => 9,
-            InstructionFault::NoSuchRow => 10,
-            InstructionFault::OutOfRange => 11,
-            InstructionFault::WrongRegister => 12,
-        }
+        self as u8
     }
 }
 

@@ -1,6 +1,6 @@
 // Lines: what each says, and the questions that a line answers by itself.
 ghost use Rattle.std.specs.Prelude.{◌≡◌, ◌≤◌, length, IfOk};
-ghost use Rattle.syntax.specs.Characters.{every};
+ghost use Rattle.std.specs.List.{list_all};
 ghost use Rattle.syntax.specs.Numbers.{held_number};
 ghost use Rattle.syntax.specs.Bounds.{Short};
 ghost use Rattle.syntax.specs.Rows.{mapped_ok};
@@ -75,21 +75,13 @@ impl LineFault {
 fn is_plain(c: char) -> bool
     ensures { result ≡ is_plain c }
 {
-    match c {
-        '\t' | ' '..='~' => true,
-        _ => false,
-    }
+    matches!(c, '\t' | ' '..='~')
 }
 
 fn all_plain(line: &[u8]) -> bool
-    ensures { result ≡ every is_plain line.now }
+    ensures { result ≡ list_all is_plain line.now }
 {
-    for b in line {
-        if !is_plain(*b as char) {
-            return false;
-        }
-    }
-    true
+    line.iter().all(|b| is_plain(char::from(*b)))
 }
 
 fn is_clean(line: &[u8]) -> bool
@@ -113,12 +105,8 @@ fn read_instruction(text: &[u8]) -> Result<Line<'_>, LineFault>
     ensures { mapped_ok line_of result ≡ instruction_by held_number text.now }
 {
     let (word, rest) = cut(text, Separator::Blank);
-    let Some(mnemonic) = read_mnemonic(word) else {
-        return Err(LineFault::BadInstruction(InstructionFault::UnknownMnemonic));
-    };
-    let Some(operands) = read_operands(rest) else {
-        return Err(LineFault::BadInstruction(InstructionFault::NoSuchRow));
-    };
+    let mnemonic = read_mnemonic(word).ok_or(InstructionFault::UnknownMnemonic)?;
+    let operands = read_operands(rest).ok_or(InstructionFault::NoSuchRow)?;
     Ok(Line::Instruction(Instruction { mnemonic, operands }))
 }
 
@@ -139,7 +127,7 @@ fn read_kind(line: &[u8]) -> Result<Line<'_>, LineFault>
     let Some((first, rest)) = line.split_first() else {
         return Ok(Line::Empty);
     };
-    match beginning_of(*first as char) {
+    match beginning_of(char::from(*first)) {
         Beginning::Semicolon => Ok(Line::Comment),
         Beginning::Tab => read_instruction(rest),
         Beginning::Space => Err(LineFault::Indented),
@@ -163,18 +151,8 @@ fn say(line: Line<'_>) -> Result<Statement<'_>, LineFault>
     match line {
         Line::Empty | Line::Comment => Ok(Statement::Empty),
         Line::Label(name, rest) => Ok(Statement::Label(name, rest)),
-        Line::Instruction(instruction) => {
-            let row = instruction.row()?;
-            Ok(Statement::Code(row))
-        }
+        Line::Instruction(instruction) => Ok(Statement::Code(instruction.row()?)),
     }
-}
-
-fn read_held(line: &[u8]) -> Result<Statement<'_>, LineFault>
-    ensures { mapped_ok statement_of result ≡ statement_by held_number line.now }
-{
-    let line = read_line(line)?;
-    say(line)
 }
 
 /// What a line says, or the first of its own questions that it fails.
@@ -182,5 +160,5 @@ pub fn read_statement(line: &[u8]) -> Result<Statement<'_>, LineFault>
     ensures value { mapped_ok statement_of result ≡ statement_in line.now }
     ensures size { IfOk result (λ s. (length line.now ≤ 120) × Short (length line.now) (statement_of s)) }
 {
-    read_held(line)
+    say(read_line(line)?)
 }

@@ -1,13 +1,17 @@
-use Rattle.std.proofs.Common.{◌∙◌, rules}
-use Rattle.syntax.proofs.Caps.{step, stop, finish}
+use Rattle.std.proofs.Common.{sym, ap, ◌∙◌, rules, arith}
+use Rattle.syntax.specs.Numbers.{digit_in}
+use Rattle.syntax.proofs.Caps.{digit-in, step, stop, finish}
 use Rattle.syntax.proofs.numbers.digits_after.Goals as goal
 
 pub returns-in_err-d : goal.returns-in_err-d
-returns-in_err-d c = rw c.from_residual.ensures (stop _ _ _ _ c.loop-b-test.true c.in_err-d.ensures ∙ c.loop-b.invariant.0)
+returns-in_err-d c =
+    let d = digit-in c.args.base c.from.result c.to_digit.result c.requires.1 c.to_digit.ensures.value ∙ ap (digit_in c.args.base) c.from.ensures in
+    rw c.from_residual.ensures (stop _ _ _ _ c.loop-b-test.true (sym c.in_err-d.was ∙ d) ∙ c.loop-b.invariant.0)
 
 pub loop-b-preserved : goal.loop-b-preserved
 loop-b-preserved c =
-    let s = step _ c.loop-b.n _ _ _ c.requires.0 c.loop-b-test.true c.in_ok-d.ensures in
+    let d = digit-in c.args.base c.from.result c.to_digit.result c.requires.1 c.to_digit.ensures.value ∙ ap (digit_in c.args.base) c.from.ensures in
+    let s = step _ c.loop-b.n _ _ _ (omega (arith, c.requires.0)) c.loop-b-test.true (sym c.in_ok-d.was ∙ d) in
     let i = c.loop-b.invariant.0 in
     (search rules, search rules)
 
