@@ -7,7 +7,7 @@ use Rattle.word.specs.declared.registers.Register.{Register}
 use Rattle.word.specs.declared.instructions.Operation.{Operation}
 use Rattle.word.specs.declared.instructions.Operation.TheVariants.{Computes, Shifts, Loads, Stores, Branches, LoadsRegister, LoadsConstant, Halts}
 use Rattle.word.specs.declared.table.Extension.{Extension}
-use Rattle.word.specs.declared.table.Extension.TheVariants.{Absent, ZeroExtended, SignExtended}
+use Rattle.word.specs.declared.table.Extension.TheVariants.{ZeroExtended, SignExtended}
 use Rattle.word.specs.Table.{row}
 use Rattle.syntax.specs.declared.mnemonics.Pseudo.TheVariants.{Nop, Lsl, Not, Neg, Ldi, Lsrm, Asrm, Lslm}
 use Rattle.syntax.specs.declared.mnemonics.Mnemonic.{Mnemonic}
@@ -31,24 +31,24 @@ word_same : (z : ℤ) → fits_word z ≡ true → held z ≡ z
 word_same (pos n) h = let e : min bound n ≡ n = grind (arith, nat_tests) in ap pos e
 word_same (negsuc n) h = let e : min (bound - 1) n ≡ n = grind (arith, nat_tests) in ap negsuc e
 
-byte-same : (x : Extension) (z : ℤ) → fits_byte x z ≡ true → held z ≡ z
-byte-same Absent z h = absurd (let n : ◌≡◌ {A = ℕ} 0 1 = cc in omega arith)
-byte-same ZeroExtended (pos n) h = let e : min bound n ≡ n = grind (arith, nat_tests) in ap pos e
-byte-same ZeroExtended (negsuc n) h = absurd (let n : ◌≡◌ {A = ℕ} 0 1 = cc in omega arith)
-byte-same SignExtended (pos n) h = let e : min bound n ≡ n = grind (arith, nat_tests) in ap pos e
-byte-same SignExtended (negsuc n) h = let e : min (bound - 1) n ≡ n = grind (arith, nat_tests) in ap negsuc e
+byte-same : (x : Option Extension) (z : ℤ) → fits_byte x z ≡ true → held z ≡ z
+byte-same None z h = absurd (let n : ◌≡◌ {A = ℕ} 0 1 = cc in omega arith)
+byte-same (Some ZeroExtended) (pos n) h = let e : min bound n ≡ n = grind (arith, nat_tests) in ap pos e
+byte-same (Some ZeroExtended) (negsuc n) h = absurd (let n : ◌≡◌ {A = ℕ} 0 1 = cc in omega arith)
+byte-same (Some SignExtended) (pos n) h = let e : min bound n ≡ n = grind (arith, nat_tests) in ap pos e
+byte-same (Some SignExtended) (negsuc n) h = let e : min (bound - 1) n ≡ n = grind (arith, nat_tests) in ap negsuc e
 
 -- out of range it stays out of range
 word_out : (z : ℤ) → fits_word z ≡ false → fits_word (held z) ≡ false
 word_out (pos n) h = grind (arith, nat_tests)
 word_out (negsuc n) h = grind (arith, nat_tests)
 
-byte_out : (x : Extension) (z : ℤ) → fits_byte x z ≡ false → fits_byte x (held z) ≡ false
-byte_out Absent z h = refl
-byte_out ZeroExtended (pos n) h = grind (arith, nat_tests)
-byte_out ZeroExtended (negsuc n) h = refl
-byte_out SignExtended (pos n) h = grind (arith, nat_tests)
-byte_out SignExtended (negsuc n) h = grind (arith, nat_tests)
+byte_out : (x : Option Extension) (z : ℤ) → fits_byte x z ≡ false → fits_byte x (held z) ≡ false
+byte_out None z h = refl
+byte_out (Some ZeroExtended) (pos n) h = grind (arith, nat_tests)
+byte_out (Some ZeroExtended) (negsuc n) h = refl
+byte_out (Some SignExtended) (pos n) h = grind (arith, nat_tests)
+byte_out (Some SignExtended) (negsuc n) h = grind (arith, nat_tests)
 
 -- a row with one number
 module _ (K : ℤ → Row) (fits : ℤ → Bool) (is : (z : ℤ) → in_range (K z) ≡ fits z) (same : (z : ℤ) → fits z ≡ true → held z ≡ z) (out : (z : ℤ) → fits z ≡ false → fits (held z) ≡ false) where

@@ -7,9 +7,9 @@ use Rattle.word.specs.declared.instructions.Condition.{Condition}
 use Rattle.word.specs.declared.instructions.Operation.{Operation}
 use Rattle.word.specs.declared.instructions.Operation.TheVariants.{Computes, Shifts, Loads, Stores, Branches, LoadsRegister, LoadsConstant, Halts}
 use Rattle.word.specs.declared.table.Shape.{Shape}
-use Rattle.word.specs.declared.table.Shape.TheVariants.{ThreeRegisters, LastZero, MiddleZero, FirstZero, NoOperands, NumberOnly}
+use Rattle.word.specs.declared.table.Shape.TheVariants.{ThreeRegisters, LastZero, MiddleZero, FirstZero, NoOperands}
 use Rattle.word.specs.declared.table.Extension.{Extension}
-use Rattle.word.specs.declared.table.Extension.TheVariants.{Absent, ZeroExtended, SignExtended}
+use Rattle.word.specs.declared.table.Extension.TheVariants.{ZeroExtended, SignExtended}
 use Rattle.word.specs.Registers.{register as numbered}
 use Rattle.word.specs.Table.{row}
 use Rattle.word.specs.Words.{is_zero, keeps_zero}
@@ -86,13 +86,13 @@ of_one (OfPseudo Asrm) r = None
 of_one (OfPseudo Lslm) r = None
 
 -- Two registers: where a word has a field that must be 0, it may be left out; lsl r,s is add r,s,s.
-abbrev pub leaves_out : Shape → Operation → Register → Register → Option Row
-leaves_out ThreeRegisters x r s = None
-leaves_out LastZero x r s = Some (registers x r s zero)
-leaves_out MiddleZero x r s = Some (registers x r zero s)
-leaves_out FirstZero x r s = Some (registers x zero r s)
-leaves_out NoOperands x r s = None
-leaves_out NumberOnly x r s = None
+abbrev pub leaves_out : Option Shape → Operation → Register → Register → Option Row
+leaves_out (Some ThreeRegisters) x r s = None
+leaves_out (Some LastZero) x r s = Some (registers x r s zero)
+leaves_out (Some MiddleZero) x r s = Some (registers x r zero s)
+leaves_out (Some FirstZero) x r s = Some (registers x zero r s)
+leaves_out (Some NoOperands) x r s = None
+leaves_out None x r s = None
 
 abbrev pub of_two_registers : Mnemonic → Register → Register → Option Row
 of_two_registers (OfWord x) r s = leaves_out (row x).shape x r s
@@ -144,13 +144,13 @@ of_name (OfPseudo Asrm) r t = None
 of_name (OfPseudo Lslm) r t = None
 
 -- Three registers: the fields of a word with Imm 0.
-abbrev pub fills_fields : Shape → Operation → Register → Register → Register → Option Row
-fills_fields ThreeRegisters x a b c = Some (registers x a b c)
-fills_fields LastZero x a b c = Some (registers x a b c)
-fills_fields MiddleZero x a b c = Some (registers x a b c)
-fills_fields FirstZero x a b c = Some (registers x a b c)
-fills_fields NoOperands x a b c = None
-fills_fields NumberOnly x a b c = None
+abbrev pub fills_fields : Option Shape → Operation → Register → Register → Register → Option Row
+fills_fields (Some ThreeRegisters) x a b c = Some (registers x a b c)
+fills_fields (Some LastZero) x a b c = Some (registers x a b c)
+fills_fields (Some MiddleZero) x a b c = Some (registers x a b c)
+fills_fields (Some FirstZero) x a b c = Some (registers x a b c)
+fills_fields (Some NoOperands) x a b c = None
+fills_fields None x a b c = None
 
 abbrev pub of_three : Mnemonic → Register → Register → Register → Option Row
 of_three (OfWord x) a b c = fills_fields (row x).shape x a b c
@@ -189,10 +189,10 @@ abbrev pub inside : ℤ → ℤ → ℤ → Bool
 inside low high z = int_le low z && int_le z high
 
 -- The range of an immediate: 0 to 255 where it is zero-extended, else −128 to 127.
-abbrev pub fits_byte : Extension → ℤ → Bool
-fits_byte Absent z = false
-fits_byte ZeroExtended z = inside (pos 0) (pos 255) z
-fits_byte SignExtended z = inside (negsuc 127) (pos 127) z
+abbrev pub fits_byte : Option Extension → ℤ → Bool
+fits_byte None z = false
+fits_byte (Some ZeroExtended) z = inside (pos 0) (pos 255) z
+fits_byte (Some SignExtended) z = inside (negsuc 127) (pos 127) z
 
 -- The range of a value: −32,768 to 65,535.
 abbrev pub fits_word : ℤ → Bool

@@ -1,12 +1,12 @@
 // Instructions taken apart, and the questions of their rows.
-ghost use Rattle.std.specs.Prelude.{◌≡◌};
+ghost use Rattle.std.specs.Prelude.{◌≡◌, Some};
 ghost use Rattle.syntax.specs.Rows.{fits_byte, fits_word, fits_value, in_range, registers_fit, asked, judged, row_of, said_value, said_row, mapped_ok};
 ghost use Rattle.syntax.specs.Operands.{said_all};
 
 use crate::mnemonics::Mnemonic;
 use crate::operands::Operands;
 use crate::rows::{InstructionFault, Row, Value, row_of};
-use word::Extension;
+use word::{Extension, Register};
 
 /// An instruction taken apart.
 #[derive(Clone, Copy)]
@@ -16,10 +16,9 @@ pub struct Instruction<'a> {
 }
 
 fn fits_byte(extension: Extension, n: i64) -> bool
-    ensures { result ≡ fits_byte extension n }
+    ensures { result ≡ fits_byte (Some extension) n }
 {
     match extension {
-        Extension::Absent => false,
         Extension::ZeroExtended => (0..=255).contains(&n),
         Extension::SignExtended => (-128..=127).contains(&n),
     }
@@ -44,7 +43,12 @@ fn in_range(row: Row<'_>) -> bool
     ensures { result ≡ in_range (said_row row.entry) }
 {
     match row {
-        Row::Immediate(operation, _, n) => fits_byte(operation.mnemonic().immediate, n),
+        Row::Immediate(operation, _, n) => {
+            operation
+                .mnemonic()
+                .immediate
+                .is_some_and(|extension| fits_byte(extension, n))
+        }
         Row::Constant(_, value) | Row::LoadFrom(_, _, value) | Row::StoreTo(_, _, value) => {
             fits_value(value)
         }
@@ -55,14 +59,20 @@ fn in_range(row: Row<'_>) -> bool
 fn registers_fit(row: Row<'_>) -> bool
     ensures { result ≡ registers_fit (said_row row.entry) }
 {
+    let zero = Register::of_bits(0);
     match row {
-        Row::Registers(operation, a, b, c) => operation.mnemonic().shape.keeps_zero(a, b, c),
+        Row::Registers(operation, a, b, c) => {
+            operation
+                .mnemonic()
+                .shape
+                .is_some_and(|shape| shape.keeps_zero(a, b, c))
+        }
         Row::Immediate(..) | Row::Constant(..) => true,
         Row::Negation(r)
         | Row::LoadFrom(_, r, _)
         | Row::StoreTo(_, r, _)
-        | Row::BranchTo(_, r, _) => r.number() != 0,
-        Row::LongShift(_, r, s) => r.number() != s.number(),
+        | Row::BranchTo(_, r, _) => r != zero,
+        Row::LongShift(_, r, s) => r != s,
     }
 }
 

@@ -104,11 +104,11 @@ fn leaves_out<'a>(operation: Operation, r: Register, s: Register) -> Option<Row<
     ensures { option_map said_row result ≡ of_two_registers (Mnemonic.OfWord operation) r s }
 {
     let zero = Register::of_bits(0);
-    match operation.mnemonic().shape {
+    match operation.mnemonic().shape? {
         Shape::LastZero => Some(Row::Registers(operation, r, s, zero)),
         Shape::MiddleZero => Some(Row::Registers(operation, r, zero, s)),
         Shape::FirstZero => Some(Row::Registers(operation, zero, r, s)),
-        Shape::ThreeRegisters | Shape::NoOperands | Shape::NumberOnly => None,
+        Shape::ThreeRegisters | Shape::NoOperands => None,
     }
 }
 
@@ -177,8 +177,8 @@ fn of_three<'a>(mnemonic: Mnemonic, a: Register, b: Register, c: Register) -> Op
     let Mnemonic::OfWord(operation) = mnemonic else {
         return None;
     };
-    match operation.mnemonic().shape {
-        Shape::NoOperands | Shape::NumberOnly => None,
+    match operation.mnemonic().shape? {
+        Shape::NoOperands => None,
         _ => Some(Row::Registers(operation, a, b, c)),
     }
 }
