@@ -1,13 +1,11 @@
 -- A number read with a bound.
-use Rattle.std.proofs.Common.{◌≡◌, ℕ, zero, suc, ◌+◌, ◌-◌, ◌*◌, ◌<◌, ◌≤◌, min, Bool, true, false, cond, ltb, List, [], ◌∷◌, length, get_or, drop, Some, None, Option, sym, refl, ap, ◌∙◌, ◌⊎◌, ⊎_elim, mul-le-mul_right, le-mul_of_pos_right, arith}
-use mathlib.Core.Path.{subst⁻¹}
+use Rattle.std.proofs.Common.{◌≡◌, ℕ, ◌+◌, ◌*◌, ◌<◌, ◌≤◌, min, true, false, cond, ltb, List, [], ◌∷◌, length, get_or, drop, Some, None, Option, sym, refl, ap, ◌∙◌, ◌⊎◌, ⊎_elim, mul-le-mul_right, le-mul_of_pos_right, arith}
 use Rattle.std.proofs.lemmas.List.{at_drop_more, at_drop_all}
 use Rattle.std.proofs.lemmas.Bool.Decides.{nat_tests}
-use Rattle.std.proofs.lemmas.Bool.{cases_lt, cond-false, ne_eqb}
+use Rattle.std.proofs.lemmas.Bool.{cases_lt}
 use Rattle.std.specs.Char.{digit_value}
-use Rattle.std.specs.Option.{option_map, SomeIff}
-use Rattle.syntax.specs.Characters.{is}
-use Rattle.syntax.specs.Numbers.{worth, digit_in, digits_after, digits, magnitude, signed, number, bound, held, capped, capped_number}
+use Rattle.std.specs.Option.{SomeIff}
+use Rattle.syntax.specs.Numbers.{worth, digits_after, bound, capped}
 
 cap_step : (base n w : ℕ) → 0 < base → min bound (min bound n * base + w) ≡ min bound (n * base + w)
 cap_step base n w h =
@@ -29,6 +27,10 @@ capped-on base n (c ∷ cs) h =
           ∙ capped-on base (n * base + worth c) cs h
       | false ↦ refl
     ]
+
+-- a digit of a base
+abbrev pub digit_in : ℕ → ℕ → Option ℕ
+digit_in base c = cond (ltb (worth c) base) (Some (worth c)) None
 
 -- in a base up to 16, `to_digit` gives what the digit is worth
 worth-value : (c : ℕ) → (digit_value c ≡ worth c) ⊎ ((16 ≤ digit_value c) × (16 ≤ worth c))
@@ -63,27 +65,3 @@ stop base n i xs inside e = sym (ap capped (at_drop_more (digits_after base n) x
 
 pub finish : (base n i : ℕ) (xs : List ℕ) → length xs ≤ i → n ≤ bound → Some n ≡ capped (digits_after base n (drop i xs))
 finish base n i xs past small = ap Some (omega arith) ∙ sym (ap capped (at_drop_all (digits_after base n) xs i past))
-
--- by the first byte
-pub magnitude_other : (t cs : List ℕ) (c : ℕ) → t ≡ c ∷ cs → (c ≡ 48 → ⊥) → digits 10 t ≡ magnitude t
-magnitude_other t cs c e other =
-    let M : List ℕ → Type 0 = λ t. digits 10 t ≡ magnitude t in
-    subst⁻¹ M e (sym (cond-false _ _ _ (ne_eqb c 48 other)))
-
--- the bound, before the sign or behind it
-cap_signed : (b : Bool) (n : ℕ) → signed b (min bound n) ≡ held (signed b n)
-cap_signed true zero = refl
-cap_signed true (suc n) = let e : min bound (suc n) ≡ suc (min (bound - 1) n) = omega arith in ap (signed true) e
-cap_signed false n = refl
-
-capped-signed : (b : Bool) (o : Option ℕ) → option_map (signed b) (capped o) ≡ option_map held (option_map (signed b) o)
-capped-signed b None = refl
-capped-signed b (Some n) = ap Some (cap_signed b n)
-
-pub capped-number : (t : List ℕ) → capped_number t ≡ option_map held (number t)
-capped-number [] = refl
-capped-number (c ∷ cs) =
-    elim (is "-" c) as (λ b. cond b (option_map (signed true) (capped (magnitude cs))) (option_map (signed false) (capped (magnitude (c ∷ cs)))) ≡ option_map held (cond b (option_map (signed true) (magnitude cs)) (option_map (signed false) (magnitude (c ∷ cs))))) [
-      | true ↦ capped-signed true (magnitude cs)
-      | false ↦ capped-signed false (magnitude (c ∷ cs))
-    ]

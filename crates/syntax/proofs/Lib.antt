@@ -2,6 +2,5 @@ pub mod Steps
 pub mod Caps
 pub mod Firsts
 pub mod Held
-pub mod Pieces
 pub mod Sizes
 pub mod Shorts

@@ -2,6 +2,7 @@
 use Rattle.std.proofs.Common.{◌≡◌, ℕ, suc, ◌≤◌, Bool, true, false, cond, not, ◌&&◌, leb, List, [], ◌∷◌, length, is_some, IfOk, Some, None, Ok, Err, Option, Result, sym, refl, ap, subst, arith}
 use Rattle.std.specs.List.{list_all}
 use Rattle.std.proofs.lemmas.Bool.Decides.{nat_tests}
+use Rattle.word.proofs.Lookups.{both}
 use Rattle.syntax.specs.declared.cuts.Separator.{Separator}
 use Rattle.syntax.specs.declared.cuts.Separator.TheVariants.{Blank}
 use Rattle.syntax.specs.declared.mnemonics.Mnemonic.{Mnemonic}
@@ -21,10 +22,6 @@ use Rattle.syntax.specs.Rows.{Row, row_of, judged, mapped_ok}
 use Rattle.syntax.specs.Statements.{Statement, empty, labelled, code, label, is_plain, is_clean, with_mnemonic, beginning, kind_of, kind_by, with_row, said_by, statement_in, statement_of}
 use Rattle.syntax.specs.Bounds.{RestShort, Short}
 
-both : (a b : Bool) → (a && b) ≡ true → (a ≡ true) × (b ≡ true)
-both true b e = (refl, e)
-both false b e = absurd (let z : ◌≡◌ {A = ℕ} 0 1 = cc in omega arith)
-
 name_short : (t : List ℕ) → is_name t ≡ true → length t ≤ 32
 name_short [] h = omega arith
 name_short (c ∷ cs) h =
@@ -36,7 +33,7 @@ name_short (c ∷ cs) h =
     omega arith
 
 behind_short : (s : Separator) (xs ys : List ℕ) → behind s xs ≡ Some ys → length ys ≤ length xs
-behind_short s [] ys e = absurd (let z : ◌≡◌ {A = ℕ} 0 1 = cc in omega arith)
+behind_short s [] ys e = grind arith
 behind_short s (b ∷ bs) ys e = by (parts s b) (behind_short s bs ys) e
   where
     by : (v : Bool) → (behind s bs ≡ Some ys → length ys ≤ length bs) → cond v (Some bs) (behind s bs) ≡ Some ys → length ys ≤ length (b ∷ bs)
@@ -49,11 +46,11 @@ rest_short l (Some t) e = behind_short Blank l t e
 
 row_short : (m : ℕ) (r : Result Row InstructionFault) (s : Statement) → with_row r ≡ Ok s → Short m s
 row_short n (Ok r) s e = let is : code r ≡ s = cc in subst (Short n) is tt
-row_short n (Err f) s e = absurd (let z : ◌≡◌ {A = ℕ} 0 1 = cc in omega arith)
+row_short n (Err f) s e = grind arith
 
 instruction_short : (n : ℕ) (m : Option Mnemonic) (os : Option Operands) (s : Statement) → said_by (with_mnemonic m os) ≡ Ok s → Short n s
-instruction_short n None os s e = absurd (let z : ◌≡◌ {A = ℕ} 0 1 = cc in omega arith)
-instruction_short n (Some m) None s e = absurd (let z : ◌≡◌ {A = ℕ} 0 1 = cc in omega arith)
+instruction_short n None os s e = grind arith
+instruction_short n (Some m) None s e = grind arith
 instruction_short n (Some m) (Some os) s e = row_short n (judged (row_of m os)) s e
 
 label_short : (l : List ℕ) (b : Bool) (s : Statement) → is_name (before Blank l) ≡ b
@@ -61,7 +58,7 @@ label_short : (l : List ℕ) (b : Bool) (s : Statement) → is_name (before Blan
 label_short l true s n e =
     let is : labelled (before Blank l) (behind Blank l) ≡ s = cc in
     subst (Short (length l)) is (name_short (before Blank l) n, rest_short l (behind Blank l) refl)
-label_short l false s n e = absurd (let z : ◌≡◌ {A = ℕ} 0 1 = cc in omega arith)
+label_short l false s n e = grind arith
 
 kind_short : (l : List ℕ) (s : Statement) → said_by (kind_by number l) ≡ Ok s → Short (length l) s
 kind_short [] s e = let is : empty ≡ s = cc in subst (Short 0) is tt
@@ -70,7 +67,7 @@ kind_short (c ∷ cs) s e = by (beginning c) e
     by : (b : Beginning) → said_by (kind_of number b c cs) ≡ Ok s → Short (length (c ∷ cs)) s
     by Semicolon e = let is : empty ≡ s = cc in subst (Short (length (c ∷ cs))) is tt
     by Tab e = instruction_short (length (c ∷ cs)) (mnemonic_in (before Blank cs)) (operands_by number (behind Blank cs)) s e
-    by Space e = absurd (let z : ◌≡◌ {A = ℕ} 0 1 = cc in omega arith)
+    by Space e = grind arith
     by Other e = label_short (c ∷ cs) (is_name (before Blank (c ∷ cs))) s refl e
 
 pub statement_short : (l : List ℕ) (s : Statement) → statement_in l ≡ Ok s → (length l ≤ 120) × Short (length l) s
@@ -81,7 +78,7 @@ statement_short l s e = by (is_clean l) refl e
         let p = both (leb (length l) 120) (list_all is_plain l) c in
         let h : length l ≤ 120 = grind (arith, nat_tests) in
         (h, kind_short l s e)
-    by false c e = absurd (let z : ◌≡◌ {A = ℕ} 0 1 = cc in omega arith)
+    by false c e = grind arith
 
 pub read_short : (l : List ℕ) (r : Result Code.Statement LineFault) → mapped_ok statement_of r ≡ statement_in l
     → IfOk r (λ s. (length l ≤ 120) × Short (length l) (statement_of s))

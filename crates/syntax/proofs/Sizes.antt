@@ -1,6 +1,7 @@
 -- How much memory data takes.
-use Rattle.std.proofs.Common.{◌≡◌, ℕ, suc, ◌+◌, ◌*◌, ◌/◌, ◌%◌, ◌<◌, ◌≤◌, Bool, true, false, cond, ◌&&◌, eqb, List, [], ◌∷◌, ◌++◌, length, IfSome, Some, None, Option, sym, refl, ap, ◌∙◌, arith, length-append}
+use Rattle.std.proofs.Common.{◌≡◌, ℕ, suc, ◌+◌, ◌*◌, ◌/◌, ◌%◌, ◌<◌, ◌≤◌, Bool, true, false, cond, eqb, List, [], ◌∷◌, ◌++◌, length, IfSome, Some, None, Option, sym, refl, ap, ◌∙◌, arith, length-append}
 use Rattle.std.proofs.lemmas.Bool.Decides.{nat_tests}
+use Rattle.word.proofs.Lookups.{both}
 use Rattle.syntax.specs.Numbers.{number}
 use Rattle.std.specs.Option.{option_map}
 use Rattle.syntax.specs.declared.cuts.Separator.{Separator}
@@ -55,25 +56,21 @@ spread_pieces s (b ∷ bs) =
 
 -- a number has a byte or more
 some_byte : (p : List ℕ) → fits (number p) ≡ true → 0 < length p
-some_byte [] h = absurd (let z : ◌≡◌ {A = ℕ} 0 1 = cc in omega arith)
+some_byte [] h = grind arith
 some_byte (c ∷ cs) h = let e : length (c ∷ cs) ≡ suc (length cs) = refl in omega arith
 
 fit_spread : (ps : List (List ℕ)) → all_fit ps ≡ true → 2 * length ps ≤ spread ps
 fit_spread [] h = omega arith
 fit_spread (p ∷ ps) h =
-    let b = both_true (fits (number p)) (all_fit ps) h in
+    let b = both (fits (number p)) (all_fit ps) h in
     let one = some_byte p b.0 in
     let ih = fit_spread ps b.1 in
     let e : length (p ∷ ps) ≡ suc (length ps) = refl in
     omega arith
-  where
-    both_true : (a b : Bool) → (a && b) ≡ true → (a ≡ true) × (b ≡ true)
-    both_true true b e = (refl, e)
-    both_true false b e = absurd (let z : ◌≡◌ {A = ℕ} 0 1 = cc in omega arith)
 
 -- what stands before the only separator, which is last
 closed-length : (s : Separator) (cs : List ℕ) → behind s cs ≡ Some [] → length (before s cs) + 1 ≡ length cs
-closed-length s [] e = absurd (let z : ◌≡◌ {A = ℕ} 0 1 = cc in omega arith)
+closed-length s [] e = grind arith
 closed-length s (b ∷ bs) e = by (parts s b) (closed-length s bs) e
   where
     by : (v : Bool) → (behind s bs ≡ Some [] → length (before s bs) + 1 ≡ length bs) → cond v (Some bs) (behind s bs) ≡ Some []
@@ -87,11 +84,11 @@ closed-length s (b ∷ bs) e = by (parts s b) (closed-length s bs) e
 
 -- data takes no more bytes than its text has, and one
 pub data-bound : (t : List ℕ) (d : Datum) → data_in t ≡ Some d → length (data_bytes d) ≤ length t + 1
-data-bound [] d e = absurd (let z : ◌≡◌ {A = ℕ} 0 1 = cc in omega arith)
+data-bound [] d e = grind arith
 data-bound (c ∷ cs) d e = by (is "\"" c) e
   where
     of_string : (o : Option (List ℕ)) → behind Quote cs ≡ o → closed (before Quote cs) o ≡ Some d → length (data_bytes d) ≤ length (c ∷ cs) + 1
-    of_string None b e = absurd (let z : ◌≡◌ {A = ℕ} 0 1 = cc in omega arith)
+    of_string None b e = grind arith
     of_string (Some []) b e =
         let s : string (before Quote cs) ≡ d = cc in
         let l = closed-length Quote cs b in
@@ -99,7 +96,7 @@ data-bound (c ∷ cs) d e = by (is "\"" c) e
         let x : length (c ∷ cs) ≡ suc (length cs) = refl in
         let y : length (data_bytes d) ≡ length (text_bytes (before Quote cs)) = ap (λ d. length (data_bytes d)) (sym s) in
         omega arith
-    of_string (Some (x ∷ xs)) b e = absurd (let z : ◌≡◌ {A = ℕ} 0 1 = cc in omega arith)
+    of_string (Some (x ∷ xs)) b e = grind arith
 
     of_numbers : (v : Bool) → all_fit (pieces Space (c ∷ cs)) ≡ v → cond v (Some (numbers (pieces Space (c ∷ cs)))) None ≡ Some d → length (data_bytes d) ≤ length (c ∷ cs) + 1
     of_numbers true f e =
@@ -109,7 +106,7 @@ data-bound (c ∷ cs) d e = by (is "\"" c) e
         let n = number-length (pieces Space (c ∷ cs)) in
         let y : length (data_bytes d) ≡ length (number_bytes (pieces Space (c ∷ cs))) = ap (λ d. length (data_bytes d)) (sym s) in
         omega arith
-    of_numbers false f e = absurd (let z : ◌≡◌ {A = ℕ} 0 1 = cc in omega arith)
+    of_numbers false f e = grind arith
 
     by : (v : Bool) → cond v (string_in cs) (numbers_in (c ∷ cs)) ≡ Some d → length (data_bytes d) ≤ length (c ∷ cs) + 1
     by true e = of_string (behind Quote cs) refl e

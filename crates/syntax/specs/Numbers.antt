@@ -11,9 +11,6 @@ worth c =
     (cond (from "A" "F" c) (c - byte "A" + 10)
     16))
 
-abbrev pub digit_in : ℕ → ℕ → Option ℕ
-digit_in base c = cond (nat_lt (worth c) base) (Some (worth c)) None
-
 -- What digits of a base are worth behind digits that are worth n.
 abbrev pub digits_after : ℕ → ℕ → List ℕ → Option ℕ
 digits_after base n [] = Some n
@@ -62,8 +59,3 @@ held_number t = option_map held (number t)
 -- The same of a number without its sign.
 abbrev pub capped : Option ℕ → Option ℕ
 capped o = option_map (min bound) o
-
-abbrev pub capped_number : List ℕ → Option ℤ
-capped_number [] = None
-capped_number (c ∷ cs) =
-    cond (is "-" c) (option_map (signed true) (capped (magnitude cs))) (option_map (signed false) (capped (magnitude (c ∷ cs))))

@@ -5,7 +5,7 @@ ghost use Rattle.syntax.specs.Mnemonics.{entries, entry_in, is_text, first, pseu
 use word::Operation;
 
 /// A mnemonic that is short for words.
-#[derive(Clone, Copy)]
+#[derive(Clone, Copy, PartialEq, Eq, Debug)]
 pub enum Pseudo {
     Nop,
     Lsl,
@@ -20,7 +20,7 @@ pub enum Pseudo {
     Lslm,
 }
 
-#[derive(Clone, Copy)]
+#[derive(Clone, Copy, PartialEq, Eq, Debug)]
 pub enum Mnemonic {
     OfWord(Operation),
     OfPseudo(Pseudo),

@@ -19,6 +19,7 @@ pub enum Operand<'a> {
 }
 
 /// No mnemonic takes more than three.
+// Stays: rows are chosen by a match on the number of operands; `None` is a line without any, no lack of an answer.
 #[derive(Clone, Copy)]
 pub enum Operands<'a> {
     None,

@@ -9,7 +9,7 @@ use crate::operands::{Operand, Operands};
 use word::{Computation, Condition, Operation, Register, Shape, Width};
 
 /// A shift by as many places as a register says.
-#[derive(Clone, Copy)]
+#[derive(Clone, Copy, PartialEq, Eq, Debug)]
 pub enum LongShift {
     /// lsrm
     Logical,
@@ -48,7 +48,7 @@ pub enum Row<'a> {
 }
 
 /// Why an instruction was refused.
-#[derive(Clone, Copy)]
+#[derive(Clone, Copy, PartialEq, Eq, Debug)]
 pub enum InstructionFault {
     UnknownMnemonic = 9,
     NoSuchRow = 10,

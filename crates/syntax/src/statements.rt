@@ -34,6 +34,7 @@ pub enum Line<'a> {
 }
 
 /// What a line says.
+// Stays: each case is a thing that a line may say, as in `Line`; `Empty` is no lack of an answer.
 #[derive(Clone, Copy)]
 pub enum Statement<'a> {
     Empty,
@@ -42,7 +43,7 @@ pub enum Statement<'a> {
 }
 
 /// Why a line was refused by itself.
-#[derive(Clone, Copy)]
+#[derive(Clone, Copy, PartialEq, Eq, Debug)]
 pub enum LineFault {
     BadCharacters,
     Indented,
@@ -63,6 +64,7 @@ impl LineFault {
     pub fn number(self) -> u8
         ensures { result ≡ number_of self }
     {
+        // Stays: one case holds an instruction's fault, and an enum with a field has no number to cast.
         match self {
             LineFault::BadCharacters => 3,
             LineFault::Indented => 4,

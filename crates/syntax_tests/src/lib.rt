@@ -3,47 +3,44 @@
 
 #[cfg(test)]
 mod tests {
-    use syntax::{read_data, read_statement};
+    use syntax::{LineFault, read_data, read_statement};
 
-    // 0 where the line passes, else the refusal's number.
-    fn asked(line: &[u8]) -> u8 {
-        match read_statement(line) {
-            Ok(_) => 0,
-            Err(fault) => fault.number(),
-        }
+    // The number of the line's refusal, or `None` where it passes.
+    fn refusal(line: &[u8]) -> Option<u8> {
+        read_statement(line).err().map(LineFault::number)
     }
 
     #[test]
     fn lines_that_pass(rt: HostRuntime) {
-        assert_eq!(rt; asked(b""), 0);
-        assert_eq!(rt; asked(b"; a comment"), 0);
-        assert_eq!(rt; asked(b"k 5"), 0);
-        assert_eq!(rt; asked(b"\tldi at,5"), 0);
-        assert_eq!(rt; asked(b"\tlsrm r0,r1"), 0);
-        assert_eq!(rt; asked(b"\tadd\tr1,-0x80"), 0);
+        assert_eq!(rt; refusal(b""), None);
+        assert_eq!(rt; refusal(b"; a comment"), None);
+        assert_eq!(rt; refusal(b"k 5"), None);
+        assert_eq!(rt; refusal(b"\tldi at,5"), None);
+        assert_eq!(rt; refusal(b"\tlsrm r0,r1"), None);
+        assert_eq!(rt; refusal(b"\tadd\tr1,-0x80"), None);
     }
 
     #[test]
     fn refusals_of_lines(rt: HostRuntime) {
-        assert_eq!(rt; asked(b"caf\xC3\xA9"), 3);
-        assert_eq!(rt; asked(b" add r1,r2,r3"), 4);
-        assert_eq!(rt; asked(b"r7 5"), 5);
-        assert_eq!(rt; asked(b"\t\tadd r1,r2,r3"), 9);
-        assert_eq!(rt; asked(b"\tnop "), 10);
-        assert_eq!(rt; asked(b"\tldb r1\t5"), 10);
-        assert_eq!(rt; asked(b"\tadd r1,r2"), 10);
+        assert_eq!(rt; refusal(b"caf\xC3\xA9"), Some(3));
+        assert_eq!(rt; refusal(b" add r1,r2,r3"), Some(4));
+        assert_eq!(rt; refusal(b"r7 5"), Some(5));
+        assert_eq!(rt; refusal(b"\t\tadd r1,r2,r3"), Some(9));
+        assert_eq!(rt; refusal(b"\tnop "), Some(10));
+        assert_eq!(rt; refusal(b"\tldb r1\t5"), Some(10));
+        assert_eq!(rt; refusal(b"\tadd r1,r2"), Some(10));
     }
 
     #[test]
     fn ranges_and_registers(rt: HostRuntime) {
-        assert_eq!(rt; asked(b"\tadd r1,127"), 0);
-        assert_eq!(rt; asked(b"\tadd r1,128"), 11);
-        assert_eq!(rt; asked(b"\tldc r1,255"), 0);
-        assert_eq!(rt; asked(b"\tldc r1,256"), 11);
-        assert_eq!(rt; asked(b"\tldw r0,70000"), 11);
-        assert_eq!(rt; asked(b"\tlsr r1,r2,r3"), 12);
-        assert_eq!(rt; asked(b"\tneg at"), 12);
-        assert_eq!(rt; asked(b"\tlsrm r5,sr"), 12);
+        assert_eq!(rt; refusal(b"\tadd r1,127"), None);
+        assert_eq!(rt; refusal(b"\tadd r1,128"), Some(11));
+        assert_eq!(rt; refusal(b"\tldc r1,255"), None);
+        assert_eq!(rt; refusal(b"\tldc r1,256"), Some(11));
+        assert_eq!(rt; refusal(b"\tldw r0,70000"), Some(11));
+        assert_eq!(rt; refusal(b"\tlsr r1,r2,r3"), Some(12));
+        assert_eq!(rt; refusal(b"\tneg at"), Some(12));
+        assert_eq!(rt; refusal(b"\tlsrm r5,sr"), Some(12));
     }
 
     #[test]

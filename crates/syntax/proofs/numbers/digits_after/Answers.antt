@@ -1,6 +1,5 @@
 use Rattle.std.proofs.Common.{sym, ap, ◌∙◌, rules, arith}
-use Rattle.syntax.specs.Numbers.{digit_in}
-use Rattle.syntax.proofs.Caps.{digit-in, step, stop, finish}
+use Rattle.syntax.proofs.Caps.{digit_in, digit-in, step, stop, finish}
 use Rattle.syntax.proofs.numbers.digits_after.Goals as goal
 
 pub returns-in_err-d : goal.returns-in_err-d
