@@ -186,15 +186,3 @@ statement_held l = by (is_clean l)
     by : (b : Bool) → said_by (cond b (kind_by held_number l) (Err BadCharacters)) ≡ said_by (cond b (kind_by number l) (Err BadCharacters))
     by true = kind-held l
     by false = refl
-
--- a number of data
-fits-held : (z : ℤ) → fits_word (held z) ≡ fits_word z
-fits-held z = by (fits_word z) refl
-  where
-    by : (b : Bool) → fits_word z ≡ b → fits_word (held z) ≡ fits_word z
-    by true e = ap fits_word (word_same z e)
-    by false e = word_out z e ∙ sym e
-
-pub data-held : (o : Option ℤ) → fits (option_map held o) ≡ fits o
-data-held None = refl
-data-held (Some z) = fits-held z

@@ -188,7 +188,8 @@ row_of m (three (name t) b c) = None
 abbrev pub inside : ℤ → ℤ → ℤ → Bool
 inside low high z = int_le low z && int_le z high
 
--- The range of an immediate: 0 to 255 where it is zero-extended, else −128 to 127.
+-- The range of an immediate: 0 to 255 where it is zero-extended, −128 to 127 where it is sign-extended, and none where
+-- the mnemonic takes none.
 abbrev pub fits_byte : Option Extension → ℤ → Bool
 fits_byte None z = false
 fits_byte (Some ZeroExtended) z = inside (pos 0) (pos 255) z
