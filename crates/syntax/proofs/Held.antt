@@ -21,7 +21,6 @@ use Rattle.syntax.specs.declared.statements.Beginning.{Beginning}
 use Rattle.syntax.specs.declared.statements.Beginning.TheVariants.{Semicolon, Tab, Space, Other}
 use Rattle.syntax.specs.Statements.{with_operands, with_mnemonic, instruction_by, beginning, kind_of, kind_by, is_clean, with_row, said_by, statement_by, statement_in}
 use Rattle.syntax.specs.declared.statements.LineFault.TheVariants.{BadCharacters}
-use Rattle.syntax.specs.Data.{fits}
 use Rattle.syntax.specs.Mnemonics.{mnemonic_in}
 use Rattle.syntax.specs.Cuts.{pieces, before, behind}
 use Rattle.syntax.specs.declared.cuts.Separator.TheVariants.{Comma, Blank}

@@ -45,24 +45,13 @@ const PSEUDOS: [PseudoName; 8] = [
     PseudoName { text: "lslm", pseudo: Pseudo::Lslm },
 ];
 
-impl PseudoName {
-    fn is_text(&self, text: &[u8]) -> bool
-        ensures { result ≡ is_text text.now (entry_in self.now) }
-    {
-        self.text.as_bytes() == text
-    }
-}
-
-fn find_pseudo(table: &[PseudoName], text: &[u8]) -> Option<Pseudo>
-    ensures { result ≡ first (is_text text.now) (map entry_in table.now) }
-{
-    table.iter().find(|p| p.is_text(text)).map(|p| p.pseudo)
-}
-
 fn pseudo_named(text: &[u8]) -> Option<Pseudo>
     ensures { result ≡ pseudo_named text.now }
 {
-    find_pseudo(&PSEUDOS, text)
+    PSEUDOS
+        .iter()
+        .find(|p| p.text.as_bytes() == text)
+        .map(|p| p.pseudo)
 }
 
 /// The mnemonic with this text.
