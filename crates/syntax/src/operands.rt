@@ -11,6 +11,7 @@ use crate::names::{is_name, read_register};
 use crate::numbers::read_number;
 use word::Register;
 
+/// One operand, as it stands between commas.
 #[derive(Clone, Copy)]
 pub enum Operand<'a> {
     Register(Register),
