@@ -13,7 +13,7 @@ use Rattle.assembler.specs.declared.records.LabelRecord.{LabelRecord}
 use Rattle.assembler.specs.declared.records.LineRecord.{LineRecord}
 use Rattle.assembler.specs.declared.records.LineKind.TheVariants.{Instruction, Data}
 use Rattle.assembler.specs.Expansions.{word_count}
-use Rattle.assembler.specs.Placing.{Room, Placing, behind, label_record, line_record, came_to, find, place_code, place_data, place_rest, place_label, place_statement, place_line}
+use Rattle.assembler.specs.Placing.{Room, Placing, behind, label_record, line_record, came_to, label_named, place_code, place_data, place_rest, place_label, place_statement, place_line}
 
 never : {X : Type 0} {A : Type 0} {a : A} {f : Refusal} → Err f ≡ Ok a → X
 never e = absurd (let z : ◌≡◌ {A = ℕ} 0 1 = cc in omega arith)
@@ -30,7 +30,7 @@ three-words (long_shift d r s) = omega arith
 
 -- A line of so many bytes led from s to s'.
 pub record Moves (s s' : Placing) (bytes : ℕ) : Type 0 where
-  pub number : s'.number ≡ s.number + 1
+  pub line : s'.line ≡ s.line + 1
   pub place : s'.place ≡ s.place + (bytes + 1)
   pub address : s'.address ≤ s.address + (bytes + 6)
 
@@ -39,7 +39,7 @@ moves : (s s' : Placing) (bytes memory : ℕ) (labels : List LabelRecord) (lines
     → ◌≡◌ {A = Result Placing Refusal} (Ok (behind s bytes memory labels lines)) (Ok s') → Moves s s' bytes
 moves s s' bytes memory labels lines small e =
     let is : behind s bytes memory labels lines ≡ s' = cc in
-    subst (λ (x : Placing). Moves s x bytes) is (record { number = refl; place = refl; address = omega arith })
+    subst (λ (x : Placing). Moves s x bytes) is (record { line = refl; place = refl; address = omega arith })
 
 module _ (free : Room) (s s' : Placing) (bytes : ℕ) where
   code_moves : (r : Row) → place_code free s bytes r ≡ Ok s' → Moves s s' bytes
@@ -62,7 +62,7 @@ module _ (free : Room) (s s' : Placing) (bytes : ℕ) where
   rest_moves n (Some t) h e = data_moves n t (data_in t) h refl e
 
   label_moves : (text n : List ℕ) (rest : Option (List ℕ)) → RestShort bytes rest → place_label free text s bytes n rest ≡ Ok s' → Moves s s' bytes
-  label_moves text n rest h e = by (is_some (find text n s.labels)) (ltb (length s.labels) (min 256 free.labels)) e
+  label_moves text n rest h e = by (is_some (label_named text n s.labels)) (ltb (length s.labels) (min 256 free.labels)) e
     where
       by : (a b : Bool) → cond a (Err LabelTwice) (cond b (place_rest free s bytes n rest) (Err NoLabelRecord)) ≡ Ok s' → Moves s s' bytes
       by true b e = never e

@@ -9,10 +9,6 @@ module _ (free : Room) (text : List ℕ) (s : Placing) (l : List ℕ) (ls : List
   next : Result Placing Refusal → Course
   next r = elim r [ Ok s' ↦ place free text s' ls | Err f ↦ Stopped s f ]
 
-  pub place-refused : (f : Refusal) → place_line free text s l ≡ Err f → place free text s (l ∷ ls) ≡ Stopped s f
-  unfolding next
-  place-refused f e = ap next e
-
   pub place-goes : (s' : Placing) → place_line free text s l ≡ Ok s' → place free text s (l ∷ ls) ≡ place free text s' ls
   unfolding next
   place-goes s' e = ap next e

@@ -1,5 +1,5 @@
 -- What assembling a text comes to: all questions in their order.
-use Rattle.std.specs.Prelude.{ℕ, ◌+◌, cond, List, [], ◌++◌, length, drop, Some, None, Ok, Err, Option, Result, nat_le}
+use Rattle.std.specs.Prelude.{ℕ, cond, List, [], ◌++◌, length, drop, Some, None, Ok, Err, Option, Result, nat_le}
 use Rattle.syntax.specs.Cuts.{lines}
 use Rattle.assembler.specs.declared.assemble.Assembled.{Assembled}
 use Rattle.assembler.specs.declared.assemble.Refused.{Refused}
@@ -26,8 +26,8 @@ named most text s None = sized most s (image_of (address_in text s.labels) (line
 
 -- Have all lines passed?
 abbrev pub passed : ℕ → List ℕ → Course → Answer
-passed most text (Stopped s f) = refused f (s.number + 1) s.labels s.lines
-passed most text (Whole s) = named most text s (first_undefined text s.labels 1 (lines text))
+passed most text (Stopped s f) = refused f s.line s.labels s.lines
+passed most text (Whole s) = named most text s (first_undefined text s.labels (lines text))
 
 -- Has the text at most 2,048 lines?
 abbrev pub of_lines : Room → ℕ → List ℕ → Answer

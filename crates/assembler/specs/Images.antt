@@ -1,5 +1,6 @@
 -- The image: the bytes of all lines, one behind the other.
-use Rattle.std.specs.Prelude.{ℕ, ◌+◌, Bool, false, cond, not, List, [], ◌∷◌, ◌++◌, is_some, Some, None, Ok, Err, Option, Result}
+use Rattle.std.specs.Prelude.{ℕ, ◌+◌, Bool, false, not, List, [], ◌∷◌, ◌++◌, is_some, Some, None, Ok, Err, Option, Result}
+use Rattle.std.specs.List.{position}
 use Rattle.std.specs.Option.{option_map}
 use Rattle.syntax.specs.declared.statements.LineFault.{LineFault}
 use Rattle.syntax.specs.Data.{Datum, data_in, data_bytes, bytes_of}
@@ -7,7 +8,7 @@ use Rattle.syntax.specs.Rows.{Value, plain, address_of, Row, registers, immediat
 use Rattle.syntax.specs.Statements.{Statement, empty, labelled, code, statement_in}
 use Rattle.assembler.specs.declared.records.LabelRecord.{LabelRecord}
 use Rattle.assembler.specs.Expansions.{value_in, words}
-use Rattle.assembler.specs.Placing.{find}
+use Rattle.assembler.specs.Placing.{label_named}
 
 -- The name that a value, or a row, uses.
 abbrev pub name_of : Value → Option (List ℕ)
@@ -49,13 +50,11 @@ used_by (Ok (code r)) = used r
 -- Is a used name no label?
 abbrev pub is_undefined : List ℕ → List LabelRecord → Option (List ℕ) → Bool
 is_undefined text labels None = false
-is_undefined text labels (Some n) = not (is_some (find text n labels))
+is_undefined text labels (Some n) = not (is_some (label_named text n labels))
 
--- The number of the first line that uses an undefined name, where the first of the lines has the number n.
-abbrev pub first_undefined : List ℕ → List LabelRecord → ℕ → List (List ℕ) → Option ℕ
-first_undefined text labels n [] = None
-first_undefined text labels n (l ∷ ls) =
-    cond (is_undefined text labels (used_by (statement_in l))) (Some n) (first_undefined text labels (n + 1) ls)
+-- The number of the first line, from 1, that uses an undefined name.
+abbrev pub first_undefined : List ℕ → List LabelRecord → List (List ℕ) → Option ℕ
+first_undefined text labels ls = option_map (λ i. i + 1) (position (λ l. is_undefined text labels (used_by (statement_in l))) ls)
 
 -- The address of a name: that of its label.
 abbrev pub record_address : Option LabelRecord → ℕ
@@ -63,7 +62,7 @@ record_address None = 0
 record_address (Some r) = r.address
 
 abbrev pub address_in : List ℕ → List LabelRecord → List ℕ → ℕ
-address_in text labels n = record_address (find text n labels)
+address_in text labels n = record_address (label_named text n labels)
 
 -- The bytes of words, high byte first.
 abbrev pub word_bytes : List ℕ → List ℕ

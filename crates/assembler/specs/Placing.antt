@@ -1,5 +1,6 @@
 -- Placing: at which address each label and each line stands, and the questions asked on the way.
 use Rattle.std.specs.Prelude.{◌≡◌, ℕ, ◌+◌, ◌*◌, ◌/◌, min, cond, List, [], ◌∷◌, ◌++◌, length, take, drop, is_some, Some, None, Ok, Err, Option, Result, nat_lt}
+use Rattle.std.specs.List.{find}
 use Rattle.std.specs.Str.{bytes_eq}
 use Rattle.syntax.specs.declared.statements.LineFault.{LineFault}
 use Rattle.syntax.specs.Data.{Datum, data_in, data_bytes}
@@ -32,18 +33,17 @@ abbrev pub name_in : List ℕ → LabelRecord → List ℕ
 name_in text r = take r.length (drop r.place text)
 
 -- The first record of this name.
-abbrev pub find : List ℕ → List ℕ → List LabelRecord → Option LabelRecord
-find text n [] = None
-find text n (r ∷ rs) = cond (bytes_eq (name_in text r) n) (Some r) (find text n rs)
+abbrev pub label_named : List ℕ → List ℕ → List LabelRecord → Option LabelRecord
+label_named text n = find (λ r. bytes_eq (name_in text r) n)
 
 -- How many label records and line records there are.
 pub record Room : Type 0 where
   pub labels : ℕ
   pub lines : ℕ
 
--- How far placing has come: the lines and the bytes read, the next address, and the records so far.
+-- How far placing has come: the next line's number, the bytes read, the next address, and the records so far.
 pub record Placing : Type 0 where
-  pub number : ℕ
+  pub line : ℕ
   pub place : ℕ
   pub address : ℕ
   pub labels : List LabelRecord
@@ -51,14 +51,14 @@ pub record Placing : Type 0 where
 
 -- Behind a line of this many bytes, with this much memory for it and these records.
 abbrev pub behind : Placing → ℕ → ℕ → List LabelRecord → List LineRecord → Placing
-behind s bytes memory labels lines = record { number = s.number + 1; place = s.place + (bytes + 1); address = s.address + memory; labels = labels; lines = lines }
+behind s bytes memory labels lines = record { line = s.line + 1; place = s.place + (bytes + 1); address = s.address + memory; labels = labels; lines = lines }
 
 -- The record of a label on the next line, and of that line's words.
 abbrev pub label_record : Placing → List ℕ → LabelRecord
 label_record s n = record { place = s.place; length = length n; address = s.address }
 
 abbrev pub line_record : Placing → ℕ → LineKind → LineRecord
-line_record s words kind = record { line = s.number + 1; address = s.address; words = words; kind = kind }
+line_record s words kind = record { line = s.line; address = s.address; words = words; kind = kind }
 
 -- Is there a free line record? An instruction's words.
 abbrev pub place_code : Room → Placing → ℕ → Row → Result Placing Refusal
@@ -82,7 +82,7 @@ place_rest free s bytes n (Some t) = place_data free s bytes n (data_in t)
 -- Is the label new? Is there a free label record, of 256 at most?
 abbrev pub place_label : Room → List ℕ → Placing → ℕ → List ℕ → Option (List ℕ) → Result Placing Refusal
 place_label free text s bytes n rest =
-    cond (is_some (find text n s.labels)) (Err LabelTwice)
+    cond (is_some (label_named text n s.labels)) (Err LabelTwice)
     (cond (nat_lt (length s.labels) (min 256 free.labels)) (place_rest free s bytes n rest) (Err NoLabelRecord))
 
 -- One line.
@@ -97,7 +97,7 @@ place_line free text s l = place_statement free text s (length l) (statement_in 
 
 -- The program's state: where it is, and the filled records of its two tables.
 abbrev pub state_of : Position → List LabelRecord → List LineRecord → Placing
-state_of at labels lines = record { number = at.number; place = at.place; address = at.address; labels = labels; lines = lines }
+state_of at labels lines = record { line = at.line; place = at.place; address = at.address; labels = labels; lines = lines }
 
 -- The two tables as far as they are lent.
 abbrev pub room : ℕ → ℕ → Room
@@ -115,7 +115,7 @@ Keeps (Err f) labels labels' lines lines' = (labels' ≡ labels) × (lines' ≡ 
 
 -- Before the first line.
 abbrev pub start : Placing
-start = record { number = 0; place = 0; address = 0; labels = []; lines = [] }
+start = record { line = 1; place = 0; address = 0; labels = []; lines = [] }
 
 -- What placing the lines of a text comes to: all are placed; or one is refused, with what stood before it.
 pub data Course : Type 0 where

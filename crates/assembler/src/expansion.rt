@@ -1,14 +1,17 @@
 // Expansions: the words that a row spells.
-ghost use Rattle.std.specs.Prelude.{◌≡◌, ◌/◌, ◌%◌, ◌≤◌, [], ◌∷◌, map};
+ghost use Rattle.std.specs.Prelude.{◌≡◌, ◌/◌, ◌%◌, ◌≤◌, [], ◌∷◌, map, length};
 ghost use Rattle.word.specs.Registers.{register as numbered};
 ghost use Rattle.word.specs.Words.{encoded};
 ghost use Rattle.syntax.specs.Rows.{said_row};
-ghost use Rattle.assembler.specs.Expansions.{byte_of, list_of, ldi, shift_once, words, word_count, held};
+ghost use Rattle.assembler.specs.Expansions.{byte_of, list_of, ldi, shift_once, words, word_count};
 ghost use Rattle.assembler.specs.Laws.{CountsStand};
 
-use crate::spelling::Spelling;
+use arrayvec::ArrayVec;
 use syntax::{LongShift, Row};
 use word::{Computation, Condition, Instruction, Register, Shift, encode};
+
+/// The words of a row: no row has more than three.
+pub type Spelling = ArrayVec<u16, 3>;
 
 fn byte_of(n: i64) -> u8
     ensures { result ≡ byte_of n }
@@ -16,75 +19,47 @@ fn byte_of(n: i64) -> u8
     n.rem_euclid(256) as u8
 }
 
-fn register(number: u8) -> Register
-    ensures { result ≡ numbered number }
+fn spelled(instructions: &[Instruction]) -> Spelling
+    requires { length instructions.now ≤ 3 }
+    ensures { result.items ≡ map encoded instructions.now }
 {
-    Register::of_bits(number as u16)
+    let mut words = ArrayVec::new();
+    for instruction in instructions {
+        words.push(encode(*instruction));
+    }
+    words
 }
 
-fn one(instruction: Option<Instruction>) -> Spelling
-    ensures text { held result ≡ map encoded (list_of instruction) }
-    ensures size { result.count ≤ 3 }
+// One instruction, or none.
+fn spelled_alone(instruction: Option<Instruction>) -> Spelling
+    ensures { result.items ≡ map encoded (list_of instruction) }
 {
-    match instruction {
-        Some(instruction) => Spelling {
-            words: [encode(instruction), 0, 0],
-            count: 1,
+    spelled(instruction.as_slice())
+}
+
+// ldi r,c: the high byte, then the low byte.
+fn ldi(register: Register, value: u16) -> (Instruction, Instruction)
+    ensures { result.0 ∷ result.1 ∷ [] ≡ ldi register value }
+{
+    let [high, low] = value.to_be_bytes();
+    (
+        Instruction::LoadConstant {
+            register,
+            immediate: high,
         },
-        None => Spelling {
-            words: [0, 0, 0],
-            count: 0,
+        Instruction::LoadConstant {
+            register,
+            immediate: low,
         },
-    }
-}
-
-fn two(first: Instruction, second: Instruction) -> Spelling
-    ensures text { held result ≡ encoded first ∷ encoded second ∷ [] }
-    ensures size { result.count ≤ 3 }
-{
-    Spelling {
-        words: [encode(first), encode(second), 0],
-        count: 2,
-    }
-}
-
-fn three(first: Instruction, second: Instruction, third: Instruction) -> Spelling
-    ensures text { held result ≡ encoded first ∷ encoded second ∷ encoded third ∷ [] }
-    ensures size { result.count ≤ 3 }
-{
-    Spelling {
-        words: [encode(first), encode(second), encode(third)],
-        count: 3,
-    }
-}
-
-fn load_high(register: Register, value: u16) -> Instruction
-    ensures { result ≡ Instruction.LoadConstant register (value / 256) }
-{
-    let immediate = (value / 256) as u8;
-    Instruction::LoadConstant {
-        register,
-        immediate,
-    }
-}
-
-fn load_low(register: Register, value: u16) -> Instruction
-    ensures { result ≡ Instruction.LoadConstant register (value % 256) }
-{
-    let immediate = (value % 256) as u8;
-    Instruction::LoadConstant {
-        register,
-        immediate,
-    }
+    )
 }
 
 // ldi at,c and one more instruction.
 fn through_at(value: u16, last: Instruction) -> Spelling
-    ensures text { held result ≡ encoded (Instruction.LoadConstant (numbered 0) (value / 256)) ∷ encoded (Instruction.LoadConstant (numbered 0) (value % 256)) ∷ encoded last ∷ [] }
-    ensures size { result.count ≤ 3 }
+    ensures { result.items ≡ encoded (Instruction.LoadConstant (numbered 0) (value / 256)) ∷ encoded (Instruction.LoadConstant (numbered 0) (value % 256)) ∷ encoded last ∷ [] }
 {
-    let at = register(0);
-    three(load_high(at, value), load_low(at, value), last)
+    let (high, low) = ldi(Register::of_bits(0), value);
+    spelled(&[high, low, last])
 }
 
 fn shift_once(shift: LongShift, r: Register) -> Instruction
@@ -111,10 +86,9 @@ fn shift_once(shift: LongShift, r: Register) -> Instruction
 }
 
 fn negation(r: Register) -> Spelling
-    ensures text { held result ≡ encoded (Instruction.Compute Computation.Xor (numbered 0) (numbered 0) (numbered 0)) ∷ encoded (Instruction.Compute Computation.Sub r (numbered 0) r) ∷ [] }
-    ensures size { result.count ≤ 3 }
+    ensures { result.items ≡ encoded (Instruction.Compute Computation.Xor (numbered 0) (numbered 0) (numbered 0)) ∷ encoded (Instruction.Compute Computation.Sub r (numbered 0) r) ∷ [] }
 {
-    let at = register(0);
+    let at = Register::of_bits(0);
     let clear = Instruction::Compute {
         computation: Computation::Xor,
         target: at,
@@ -127,12 +101,11 @@ fn negation(r: Register) -> Spelling
         left: at,
         right: r,
     };
-    two(clear, subtract)
+    spelled(&[clear, subtract])
 }
 
 fn long_shift(shift: LongShift, r: Register, s: Register) -> Spelling
-    ensures text { held result ≡ encoded (shift_once shift r) ∷ encoded (Instruction.ComputeImmediate Computation.Sub s 1) ∷ encoded (Instruction.BranchImmediate Condition.NotZero s 250) ∷ [] }
-    ensures size { result.count ≤ 3 }
+    ensures { result.items ≡ encoded (shift_once shift r) ∷ encoded (Instruction.ComputeImmediate Computation.Sub s 1) ∷ encoded (Instruction.BranchImmediate Condition.NotZero s 250) ∷ [] }
 {
     let count_down = Instruction::ComputeImmediate {
         computation: Computation::Sub,
@@ -144,49 +117,47 @@ fn long_shift(shift: LongShift, r: Register, s: Register) -> Spelling
         tested: s,
         immediate: 250,
     };
-    three(shift_once(shift, r), count_down, back)
+    spelled(&[shift_once(shift, r), count_down, back])
 }
 
 /// The words of a row, given the value that it takes in.
 pub fn spell(row: Row<'_>, value: u16) -> Spelling
-    ensures text { held result ≡ words value (said_row row.entry) }
-    ensures size { result.count ≤ 3 }
+    ensures { result.items ≡ words value (said_row row.entry) }
 {
-    let at = register(0);
+    let at = Register::of_bits(0);
     match row {
-        Row::Registers(operation, a, b, c) => one(operation.with_registers(
-            register(a),
-            register(b),
-            register(c),
-        )),
-        Row::Immediate(operation, r, n) => one(operation.with_immediate(register(r), byte_of(n))),
-        Row::Negation(r) => negation(register(r)),
-        Row::Constant(r, _) => two(load_high(register(r), value), load_low(register(r), value)),
-        Row::LoadFrom(width, r, _) => through_at(
+        Row::Registers(operation, a, b, c) => spelled_alone(operation.with_registers(a, b, c)),
+        Row::Immediate(operation, r, n) => spelled_alone(operation.with_immediate(r, byte_of(n))),
+        Row::Negation(r) => negation(r),
+        Row::Constant(r, _) => {
+            let (high, low) = ldi(r, value);
+            spelled(&[high, low])
+        }
+        Row::LoadFrom(width, target, _) => through_at(
             value,
             Instruction::Load {
                 width,
-                target: register(r),
+                target,
                 address: at,
             },
         ),
-        Row::StoreTo(width, r, _) => through_at(
+        Row::StoreTo(width, source, _) => through_at(
             value,
             Instruction::Store {
                 width,
-                source: register(r),
+                source,
                 address: at,
             },
         ),
-        Row::BranchTo(condition, r, _) => through_at(
+        Row::BranchTo(condition, tested, _) => through_at(
             value,
             Instruction::Branch {
                 condition,
-                tested: register(r),
+                tested,
                 target: at,
             },
         ),
-        Row::LongShift(shift, r, s) => long_shift(shift, register(r), register(s)),
+        Row::LongShift(shift, r, s) => long_shift(shift, r, s),
     }
 }
 

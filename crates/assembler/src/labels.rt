@@ -1,7 +1,7 @@
 // Labels by their names.
 ghost use Rattle.std.specs.Prelude.{◌≡◌};
 ghost use Rattle.std.specs.Str.{bytes_eq};
-ghost use Rattle.assembler.specs.Placing.{name_in, find};
+ghost use Rattle.assembler.specs.Placing.{name_in, label_named};
 
 use crate::records::LabelRecord;
 
@@ -10,20 +10,18 @@ impl LabelRecord {
     fn is_named(&self, text: &[u8], name: &[u8]) -> bool
         ensures { result ≡ bytes_eq (name_in text.now self.now) name.now }
     {
-        let start = (self.place as usize).min(text.len());
-        let end = (self.place as usize + self.length as usize).min(text.len());
-        &text[start..end] == name
+        let start = usize::from(self.place);
+        let end = start + usize::from(self.length);
+        &text[start.min(text.len())..end.min(text.len())] == name
     }
 }
 
 /// The first record of this name.
 pub fn find_label(records: &[LabelRecord], text: &[u8], name: &[u8]) -> Option<LabelRecord>
-    ensures { result ≡ find text.now name.now records.now }
+    ensures { result ≡ label_named text.now name.now records.now }
 {
-    for record in records {
-        if record.is_named(text, name) {
-            return Some(*record);
-        }
-    }
-    None
+    records
+        .iter()
+        .copied()
+        .find(|record| record.is_named(text, name))
 }

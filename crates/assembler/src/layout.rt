@@ -1,26 +1,33 @@
 // Placing all lines of a text.
-ghost use Rattle.std.specs.Prelude.{◌≡◌, ◌+◌, ◌*◌, ◌<◌, ◌≤◌, length, MatchResult};
+ghost use Rattle.std.specs.Prelude.{◌≡◌, ◌+◌, ◌<◌, ◌≤◌, length};
 ghost use Rattle.syntax.specs.Cuts.{lines as text_lines};
 ghost use Rattle.assembler.specs.Tables.{filled, size, Spared};
 ghost use Rattle.assembler.specs.Placing.{room, start, place, course_of};
 
-use crate::lines::next_line;
+use crate::lines::Lines;
 use crate::placing::place_line;
 use crate::records::{LabelRecord, LineRecord, Position, Stop};
 use crate::table::Table;
 
 impl Position {
+    // Before the first line.
+    const START: Position = Position {
+        line: 1,
+        place: 0,
+        address: 0,
+    };
+
     // Behind a line of so many bytes that takes so much memory.
     fn behind(self, bytes: usize, memory: usize) -> Position
-        requires { (self.number < 65536) × ((self.place < 65536) × ((self.address < 65536) × ((bytes < 65536) × (memory < 65536 * 2)))) }
-        ensures number { result.number ≡ self.number + 1 }
+        requires { (self.line < 65535) × ((self.place + (bytes + 1) < 65536) × (self.address + memory < 65536)) }
+        ensures line { result.line ≡ self.line + 1 }
         ensures place { result.place ≡ self.place + (bytes + 1) }
         ensures address { result.address ≡ self.address + memory }
     {
         Position {
-            number: self.number + 1,
-            place: self.place + (bytes + 1),
-            address: self.address + memory,
+            line: self.line + 1,
+            place: self.place + (bytes as u16 + 1),
+            address: self.address + memory as u16,
         }
     }
 }
@@ -36,19 +43,13 @@ pub fn place_lines(
     ensures comes { place (room (size labels.old) (size lines.old)) text.now start (text_lines text.now) ≡ course_of result (filled labels.new) (filled lines.new) }
     ensures spared { (Spared labels.old labels.new) × (Spared lines.old lines.new) }
 {
-    let mut at = Position {
-        number: 0,
-        place: 0,
-        address: 0,
-    };
-    let mut rest = text;
-    while !rest.is_empty() {
-        let (line, behind) = next_line(rest);
-        match place_line(line, text, at, labels, lines) {
-            Ok(memory) => at = at.behind(line.len(), memory),
-            Err(refusal) => return Err(Stop { at, refusal }),
-        }
-        rest = behind;
+    let mut at = Position::START;
+    for line in Lines::of(text) {
+        let memory = place_line(line, text, at, labels, lines).map_err(|refusal| Stop {
+            at,
+            refusal,
+        })?;
+        at = at.behind(line.len(), memory);
     }
     Ok(at)
 }

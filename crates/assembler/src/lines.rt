@@ -1,5 +1,6 @@
 // The lines of a text, one after the other.
 ghost use Rattle.std.specs.Prelude.{◌≡◌, ◌+◌, ◌<◌, ◌≤◌, [], ◌∷◌, length, unwrap_or};
+ghost use Rattle.std.specs.Iterator.{YieldsFirstRef, item_count};
 ghost use Rattle.syntax.specs.declared.cuts.Separator.TheVariants.{LineFeed};
 ghost use Rattle.syntax.specs.Cuts.{lines, before, behind};
 
@@ -15,9 +16,37 @@ pub fn next_line(text: &[u8]) -> (&[u8], &[u8])
     ensures parted { 0 < length result.1.now → length result.0.now + (length result.1.now + 1) ≤ length text.now }
 {
     let (line, behind) = cut(text, Separator::LineFeed);
-    match behind {
-        Some(rest) => (line, rest),
-        None => (line, &text[0..0]),
+    (line, behind.unwrap_or_default())
+}
+
+// The lines of what is left of a text, first to last.
+#[derive(Drop)]
+pub(crate) struct Lines<'a> {
+    rest: &'a [u8],
+}
+
+impl<'a> Iterator for Lines<'a> {
+    type Item = &'a [u8];
+
+    ghost next_gives = { YieldsFirstRef (λ s. lines s.rest.now) };
+
+    ghost remaining = { item_count (λ s. lines s.rest.now) };
+
+    fn next(&mut self) -> Option<&'a [u8]> {
+        if self.rest.is_empty() {
+            return None;
+        }
+        let (line, rest) = next_line(self.rest);
+        self.rest = rest;
+        Some(line)
+    }
+}
+
+impl<'a> Lines<'a> {
+    pub(crate) fn of(text: &'a [u8]) -> Lines<'a>
+        ensures { result.rest.now ≡ text.now }
+    {
+        Lines { rest: text }
     }
 }
 
@@ -25,12 +54,5 @@ pub fn next_line(text: &[u8]) -> (&[u8], &[u8])
 pub fn count_lines(text: &[u8]) -> usize
     ensures { result ≡ length (lines text.now) }
 {
-    let mut count = 0;
-    let mut rest = text;
-    while !rest.is_empty() {
-        let (_, behind) = next_line(rest);
-        count += 1;
-        rest = behind;
-    }
-    count
+    Lines::of(text).count()
 }

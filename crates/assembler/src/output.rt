@@ -8,31 +8,24 @@ ghost use Rattle.assembler.specs.Images.{word_bytes};
 
 use crate::table::Table;
 
-fn put_byte(byte: u8, out: &mut Table<u8>)
-    requires { out.old.count < size out.old }
-    ensures put { filled out.new ≡ filled out.old ++ (byte ∷ []) }
-    ensures count { out.new.count ≡ out.old.count + 1 }
+fn put_bytes(bytes: &[u8], out: &mut Table<u8>)
+    requires { out.old.count + length bytes.now ≤ size out.old }
+    ensures put { filled out.new ≡ filled out.old ++ bytes.now }
+    ensures count { out.new.count ≡ out.old.count + length bytes.now }
     ensures spared { Spared out.old out.new }
 {
-    let _ = out.push(byte);
+    for byte in bytes {
+        let _ = out.push(*byte);
+    }
 }
 
-fn put_word(word: u16, out: &mut Table<u8>)
-    requires { out.old.count + 2 ≤ size out.old }
-    ensures put { filled out.new ≡ filled out.old ++ bytes_of word }
-    ensures count { out.new.count ≡ out.old.count + 2 }
-    ensures spared { Spared out.old out.new }
-{
-    put_byte((word / 256) as u8, out);
-    put_byte((word % 256) as u8, out);
-}
-
+/// Puts words behind what the image holds, high byte first.
 pub fn put_words(words: &[u16], out: &mut Table<u8>)
     requires { out.old.count + 2 * length words.now ≤ size out.old }
     ensures put { filled out.new ≡ filled out.old ++ word_bytes words.now }
     ensures spared { Spared out.old out.new }
 {
     for word in words {
-        put_word(*word, out);
+        put_bytes(&word.to_be_bytes(), out);
     }
 }

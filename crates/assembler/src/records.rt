@@ -2,7 +2,7 @@
 use syntax::LineFault;
 
 /// Where a label's name stands in the text, and its address.
-#[derive(Clone, Copy)]
+#[derive(Clone, Copy, PartialEq, Eq, Debug)]
 pub struct LabelRecord {
     /// The offset of the name's first byte, from 0.
     pub place: u16,
@@ -10,14 +10,14 @@ pub struct LabelRecord {
     pub address: u16,
 }
 
-#[derive(Clone, Copy)]
+#[derive(Clone, Copy, PartialEq, Eq, Debug)]
 pub enum LineKind {
     Instruction,
     Data,
 }
 
 /// A line that has words: its number from 1, its address, how many words it spells, and what they are.
-#[derive(Clone, Copy)]
+#[derive(Clone, Copy, PartialEq, Eq, Debug)]
 pub struct LineRecord {
     pub line: u16,
     pub address: u16,
@@ -39,12 +39,12 @@ pub enum Refusal {
     ImageTooLong,
 }
 
-/// How far placing has come: the lines read, the bytes read, the next address.
-#[derive(Clone, Copy)]
+/// How far placing has come: the next line's number, the bytes read, the next address.
+#[derive(Clone, Copy, PartialEq, Eq, Debug)]
 pub struct Position {
-    pub number: usize,
-    pub place: usize,
-    pub address: usize,
+    pub line: u16,
+    pub place: u16,
+    pub address: u16,
 }
 
 /// The line at which placing stopped stands here, and is refused.

@@ -2,9 +2,10 @@
 ghost use Rattle.std.specs.Prelude.{◌≡◌, ◌+◌, ◌<◌, ◌≤◌, not, [], ◌∷◌, ◌++◌, length, take, drop, is_ok, if◌then◌else◌, MatchOption, nat_lt, slice_index_or, slice_set};
 
 /// No record is free.
-#[derive(Clone, Copy)]
+#[derive(Clone, Copy, PartialEq, Eq, Debug)]
 pub struct Full;
 
+// Stays: a slice with a count beside it, since the records are lent and nothing here allocates.
 #[derive(Drop)]
 pub struct Table<'a, R> {
     records: &'a mut [R],
@@ -33,8 +34,7 @@ impl<'a, R: Copy> Table<'a, R> {
     pub fn filled(&self) -> &[R]
         ensures { result.now ≡ take self.now.count self.now.records.now }
     {
-        let records = &*self.records;
-        &records[0..self.count]
+        &self.records[..self.count]
     }
 
     /// Whether none is free.
@@ -48,12 +48,7 @@ impl<'a, R: Copy> Table<'a, R> {
     pub fn get(&self, i: usize) -> Option<R>
         ensures { MatchOption result (self.now.count ≤ i) (λ r. (i < self.now.count) × (r ≡ slice_index_or self.now.records.now i r)) }
     {
-        let records = &*self.records;
-        if i < self.count {
-            Some(records[i])
-        } else {
-            None
-        }
+        self.filled().get(i).copied()
     }
 
     /// Fills the first free record; where there is none, nothing changes.

@@ -1,5 +1,6 @@
 // The names that lines use.
-ghost use Rattle.std.specs.Prelude.{◌≡◌, Ok};
+ghost use Rattle.std.specs.Prelude.{◌≡◌, ◌<◌, length, IfSome, Ok};
+ghost use Rattle.std.specs.List.{position};
 ghost use Rattle.std.specs.Option.{option_map};
 ghost use Rattle.syntax.specs.Cuts.{lines};
 ghost use Rattle.syntax.specs.Rows.{said_row, said_value};
@@ -7,7 +8,7 @@ ghost use Rattle.syntax.specs.Statements.{statement_in, statement_of};
 ghost use Rattle.assembler.specs.Images.{name_of, used, used_by, is_undefined, first_undefined};
 
 use crate::labels::find_label;
-use crate::lines::next_line;
+use crate::lines::Lines;
 use crate::records::LabelRecord;
 use syntax::{Row, Statement, Value, read_statement};
 
@@ -45,34 +46,27 @@ fn name_in(statement: Statement<'_>) -> Option<&[u8]>
 fn name_on(line: &[u8]) -> Option<&[u8]>
     ensures { option_map (λ x. x.now) result ≡ used_by (statement_in line.now) }
 {
-    match read_statement(line) {
-        Ok(statement) => name_in(statement),
-        Err(_) => None,
-    }
+    name_in(read_statement(line).ok()?)
 }
 
 fn is_undefined(name: Option<&[u8]>, text: &[u8], labels: &[LabelRecord]) -> bool
     ensures { result ≡ is_undefined text.now labels.now (option_map (λ x. x.now) name.entry) }
 {
-    match name {
-        None => false,
-        Some(name) => find_label(labels, text, name).is_none(),
-    }
+    name.is_some_and(|name| find_label(labels, text, name).is_none())
+}
+
+// Where, counted from 0, the first line stands that uses a name that is no label.
+fn place_of_undefined(text: &[u8], labels: &[LabelRecord]) -> Option<usize>
+    ensures place { result ≡ position (λ l. is_undefined text.now labels.now (used_by (statement_in l))) (lines text.now) }
+    ensures bound { IfSome result (λ i. i < length text.now) }
+{
+    Lines::of(text).position(|line| is_undefined(name_on(line), text, labels))
 }
 
 /// The number of the first line that uses a name that is no label.
 pub fn first_undefined(text: &[u8], labels: &[LabelRecord]) -> Option<usize>
-    ensures { result ≡ first_undefined text.now labels.now 1 (lines text.now) }
+    ensures { result ≡ first_undefined text.now labels.now (lines text.now) }
 {
-    let mut number = 1;
-    let mut rest = text;
-    while !rest.is_empty() {
-        let (line, behind) = next_line(rest);
-        if is_undefined(name_on(line), text, labels) {
-            return Some(number);
-        }
-        number += 1;
-        rest = behind;
-    }
-    None
+    let place = place_of_undefined(text, labels)?;
+    Some(place + 1)
 }

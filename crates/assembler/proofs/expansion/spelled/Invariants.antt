@@ -1,0 +1,6 @@
+use Rattle.std.proofs.Common.{◌≡◌, map, take}
+use Rattle.word.specs.Words.{encoded}
+use Rattle.assembler.proofs.expansion.spelled.Given as goal
+
+abbrev pub invariant-loop-instruction : goal.invariant-loop-instruction
+invariant-loop-instruction l = l.words.items ≡ map encoded (take l.instruction-index l.instructions)
