@@ -11,7 +11,7 @@ pub struct Assembled {
 
 /// Why and on which line a text was refused (0: on none), and how many records each table holds.
 // Stays: the line is a number, not an Option: every refusal has a place, and the rules call the place of no line 0.
-#[derive(Clone, Copy)]
+#[derive(Clone, Copy, PartialEq, Eq, Debug)]
 pub struct Refused {
     pub refusal: Refusal,
     pub line: usize,

@@ -26,7 +26,7 @@ pub struct LineRecord {
 }
 
 /// Why a text is refused.
-#[derive(Clone, Copy)]
+#[derive(Clone, Copy, PartialEq, Eq, Debug)]
 pub enum Refusal {
     TextTooLong,
     TooManyLines,
@@ -48,7 +48,7 @@ pub struct Position {
 }
 
 /// The line at which placing stopped stands here, and is refused.
-#[derive(Clone, Copy)]
+#[derive(Clone, Copy, PartialEq, Eq, Debug)]
 pub struct Stop {
     pub at: Position,
     pub refusal: Refusal,
