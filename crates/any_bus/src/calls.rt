@@ -5,6 +5,7 @@ ghost use Rattle.any_bus.specs.Answers.{answered, stores_of, SameKinds, Told};
 
 use bus::{Bus, BusFault};
 
+// Stays: an enum and no closures, since scripts list calls, repeat them and put their answers beside them.
 #[derive(Clone, Copy)]
 pub enum BusCall {
     Peek(u16),

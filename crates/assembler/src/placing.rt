@@ -98,8 +98,7 @@ fn place_label(
     Ok(memory)
 }
 
-// Stays: two parameters for the two tables (tried as one struct): of memory lent through a struct in a struct its lender
-// learns only the length.
+// Stays: two parameters for the tables; tried as one struct, but of memory lent to a struct in a struct the lender learns the length alone.
 /// Places one line: how much memory it takes, or why it is refused.
 pub fn place_line(
     line: &[u8],

@@ -16,6 +16,7 @@ pub enum BusFault {
 }
 
 impl BusFault {
+    // Stays: a method of each enum with numbers, since each has a definition of its own and no crate below them all.
     pub fn number(self) -> u8
         ensures { result ≡ fault_number self }
     {

@@ -18,6 +18,7 @@ pub enum FillFault {
 }
 
 impl FillFault {
+    // Stays: a method of each enum with numbers, since each has a definition of its own and no crate below them all.
     pub fn number(self) -> u8
         ensures { result ≡ fill_number self }
     {

@@ -25,6 +25,7 @@ pub fn word_in(text: &[u8]) -> Option<u16>
     let b = hex_digit(b)?;
     let c = hex_digit(c)?;
     let d = hex_digit(d)?;
+    // Stays: four digits by their worth, since `from_str_radix` would let a sign pass for one.
     Some(a * 4096 + b * 256 + c * 16 + d)
 }
 

@@ -58,6 +58,7 @@ pub enum InstructionFault {
 
 impl InstructionFault {
     /// The number by which it is known.
+    // Stays: a method of each enum with numbers, since each has a definition of its own and no crate below them all.
     pub fn number(self) -> u8
         ensures { result ≡ number_of self }
     {

@@ -80,6 +80,7 @@ fn is_plain(c: char) -> bool
     matches!(c, '\t' | ' '..='~')
 }
 
+// Stays: a line beside `all_go_on` of the names; a function over both tests would be that line again.
 fn all_plain(line: &[u8]) -> bool
     ensures { result ≡ list_all is_plain line.now }
 {

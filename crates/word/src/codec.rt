@@ -130,6 +130,7 @@ impl Instruction {
 }
 
 // The fields are shifted to their places and joined.
+// Stays: three registers by name, here and below: a struct would be filled by name at each call and read by name again.
 fn register_word(opcode: u8, rst: Register, rsa: Register, rsb: Register, op2: u8) -> u16
     requires { (opcode < 16) × (op2 < 4) }
     ensures { result ≡ register_word opcode rst rsa rsb op2 }
