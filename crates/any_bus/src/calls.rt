@@ -26,6 +26,7 @@ pub enum BusReply {
     Done,
 }
 
+// Stays: what every call promises stands here again, since code for every bus hands each of it on.
 // Sends one call. Whatever it is, no address changes its kind.
 pub fn answer<B: Bus>(bus: &mut B, call: BusCall) -> Result<BusReply, BusFault>
     ensures tells { answered call (B.Bus.meaning bus.old) ≡ record { answer = result; after = B.Bus.meaning bus.new } }

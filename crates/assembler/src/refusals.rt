@@ -10,7 +10,7 @@ impl From<LineFault> for Refusal {
     ghost from_gives = { λ e r. r ≡ InLine e };
 
     fn from(fault: LineFault) -> Refusal {
-        Refusal::InLine(fault)
+        Self::InLine(fault)
     }
 }
 

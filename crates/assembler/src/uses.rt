@@ -25,9 +25,9 @@ fn used_name(row: Row<'_>) -> Option<&[u8]>
     ensures { option_map (λ x. x.now) result ≡ used (said_row row.entry) }
 {
     match row {
-        Row::Constant(_, value) => name_of(value),
-        Row::LoadFrom(_, _, value) => name_of(value),
-        Row::StoreTo(_, _, value) => name_of(value),
+        Row::Constant(_, value) | Row::LoadFrom(_, _, value) | Row::StoreTo(_, _, value) => name_of(
+            value,
+        ),
         Row::BranchTo(_, _, name) => Some(name),
         Row::Registers(..) | Row::Immediate(..) | Row::Negation(_) | Row::LongShift(..) => None,
     }
@@ -49,6 +49,7 @@ fn name_on(line: &[u8]) -> Option<&[u8]>
     name_in(read_statement(line).ok()?)
 }
 
+// Stays: a text and its labels as two parameters; tried as one struct, but what a closure over it answers leaves a goal.
 fn is_undefined(name: Option<&[u8]>, text: &[u8], labels: &[LabelRecord]) -> bool
     ensures { result ≡ is_undefined text.now labels.now (option_map (λ x. x.now) name.entry) }
 {

@@ -16,7 +16,7 @@ pub enum BusFault {
 }
 
 impl BusFault {
-    // Stays: a method of each enum with numbers, since each has a definition of its own and no crate below them all.
+    // Stays: a method here; as a trait's it would take an impl with this same line for each enum that has numbers.
     pub fn number(self) -> u8
         ensures { result ≡ fault_number self }
     {

@@ -29,6 +29,7 @@ pub trait Bus {
     // A bus that keeps a log of its stores says here what the log then holds; any other says nothing.
     ghost stored: { Self → List Store → Self → Type 0 };
 
+    // Stays: today's buses fill these three alike, and each has to: an impl owes every ghost member.
     ghost none: { (s : Self) → stored s [] s };
 
     ghost further: { (s t u : Self) (xs ys : List Store) → stored s xs t → stored t ys u → stored s (xs ++ ys) u };

@@ -27,6 +27,7 @@ fn value(n: u16) -> u16 {
     }
 }
 
+// Stays: kinds by number, here and below and in `address`: they are drawn, and a call's share is how many numbers it has.
 // Fills the queues faster than it empties them.
 pub fn flood(kind: u16, a: u16, v: u16) -> BusCall {
     match kind % 8 {

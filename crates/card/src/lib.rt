@@ -18,7 +18,7 @@ pub enum FillFault {
 }
 
 impl FillFault {
-    // Stays: a method of each enum with numbers, since each has a definition of its own and no crate below them all.
+    // Stays: a method here; as a trait's it would take an impl with this same line for each enum that has numbers.
     pub fn number(self) -> u8
         ensures { result ≡ fill_number self }
     {
@@ -124,6 +124,7 @@ impl<B: Bus + Drop> Bus for Card<B> {
     }
 
     fn load_byte(&mut self, a: u16) -> Result<u8, BusFault> {
+        // Stays: a match, since a closure that asks the bus below would change what it captures, and nothing be known of it.
         match self.card.byte_at(a) {
             Some(b) => Ok(b),
             None => self.below.load_byte(a),

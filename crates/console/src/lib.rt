@@ -45,10 +45,10 @@ fn is_port(a: u16) -> bool
 fn no_byte(a: u16) -> BusFault
     ensures { result ≡ (if at_port a then ByteAtPort else NothingThere) }
 {
-    match is_port(a) {
-        true => BusFault::ByteAtPort,
-        false => BusFault::NothingThere,
+    if !is_port(a) {
+        return BusFault::NothingThere;
     }
+    BusFault::ByteAtPort
 }
 
 // Sends a text, all of it or, where it does not fit, nothing.
@@ -117,10 +117,10 @@ impl<B: Bus + Drop> Bus for Console<B> {
                 .pop_at(0)
                 .map(u16::from)
                 .ok_or(BusFault::NoneWaiting),
-            _ => match self.below.peek(a) {
-                Some(_) => self.below.load_word(a),
-                None => Err(BusFault::NothingThere),
-            },
+            _ => {
+                self.below.peek(a).ok_or(BusFault::NothingThere)?;
+                self.below.load_word(a)
+            }
         }
     }
 
@@ -142,10 +142,10 @@ impl<B: Bus + Drop> Bus for Console<B> {
                 send(&mut self.sent, digits.format(v.cast_signed()).as_bytes())
             }
             INPUT_PORT => Err(BusFault::WrongWay),
-            _ => match self.below.peek(a) {
-                Some(_) => self.below.store_word(a, v),
-                None => Err(BusFault::NothingThere),
-            },
+            _ => {
+                self.below.peek(a).ok_or(BusFault::NothingThere)?;
+                self.below.store_word(a, v)
+            }
         }
     }
 

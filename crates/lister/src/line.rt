@@ -11,6 +11,7 @@ fn register_text(register: Register) -> &'static str
     ensures text { result.now ≡ register_text register }
     ensures len { length result.now ≡ 2 }
 {
+    // Stays: the eight names as they are; a digit made of the number would have to be shown to be one byte.
     match register.number() {
         0 => "r0",
         1 => "r1",
@@ -34,6 +35,7 @@ fn immediate_text<'a>(extension: Option<Extension>, n: u8, digits: &'a mut Buffe
 }
 
 // A space and three registers.
+// Stays: pushed piece by piece, here and below: `write!` would answer a `Result` that is never an `Err`.
 fn three_registers(a: Register, b: Register, c: Register) -> ArrayString<9>
     ensures { result.bytes ≡ codes " " ++ three_registers a b c }
 {

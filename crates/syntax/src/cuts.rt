@@ -24,14 +24,14 @@ impl Separator {
     pub(crate) fn parts(self, byte: u8) -> bool
         ensures { result ≡ parts self byte }
     {
-        match (self, char::from(byte)) {
-            (Separator::LineFeed, '\n') => true,
-            (Separator::Blank, ' ' | '\t') => true,
-            (Separator::Space, ' ') => true,
-            (Separator::Comma, ',') => true,
-            (Separator::Quote, '"') => true,
-            _ => false,
-        }
+        matches!(
+            (self, char::from(byte)),
+            (Separator::LineFeed, '\n')
+                | (Separator::Blank, ' ' | '\t')
+                | (Separator::Space, ' ')
+                | (Separator::Comma, ',')
+                | (Separator::Quote, '"')
+        )
     }
 }
 

@@ -41,6 +41,7 @@ fn read_operand(text: &[u8]) -> Option<Operand<'_>>
     Some(Operand::Number(read_number(text)?))
 }
 
+// Stays: one operand after the other, since operands cannot be collected without memory.
 fn read_some(text: &[u8]) -> Option<Operands<'_>>
     ensures { option_map said_all result ≡ after_none held_number (pieces Comma text.now) }
 {

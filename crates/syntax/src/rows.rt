@@ -58,7 +58,7 @@ pub enum InstructionFault {
 
 impl InstructionFault {
     /// The number by which it is known.
-    // Stays: a method of each enum with numbers, since each has a definition of its own and no crate below them all.
+    // Stays: a method here; as a trait's it would take an impl with this same line for each enum that has numbers.
     pub fn number(self) -> u8
         ensures { result ≡ number_of self }
     {
@@ -142,6 +142,7 @@ fn word_of_number<'a>(operation: Operation, r: Register, n: i64) -> Option<Row<'
     }
 }
 
+// Stays: a mnemonic and its operands one by one, and apart from names: the rows are told apart by these kinds.
 fn of_number<'a>(mnemonic: Mnemonic, r: Register, n: i64) -> Option<Row<'a>>
     ensures { option_map said_row result ≡ of_number mnemonic r n }
 {

@@ -15,7 +15,8 @@ use crate::operands::read_operands;
 use crate::rows::{InstructionFault, Row};
 
 /// What a line begins with.
-#[derive(Clone, Copy)]
+// Stays: an enum that is matched once, since the definition names the four beginnings by it.
+#[derive(Clone, Copy, PartialEq, Eq, Debug)]
 pub enum Beginning {
     Semicolon,
     Tab,

@@ -180,12 +180,13 @@ impl Shape {
     pub fn keeps_zero(self, rst: Register, rsa: Register, rsb: Register) -> bool
         ensures { result ≡ keeps_zero (Some self) rst rsa rsb }
     {
+        let zero = Register::of_bits(0);
         match self {
             Shape::ThreeRegisters => true,
-            Shape::LastZero => rsb.number() == 0,
-            Shape::MiddleZero => rsa.number() == 0,
-            Shape::FirstZero => rst.number() == 0,
-            Shape::NoOperands => rst.number() == 0 && rsa.number() == 0 && rsb.number() == 0,
+            Shape::LastZero => rsb == zero,
+            Shape::MiddleZero => rsa == zero,
+            Shape::FirstZero => rst == zero,
+            Shape::NoOperands => rst == zero && rsa == zero && rsb == zero,
         }
     }
 }

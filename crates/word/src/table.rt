@@ -108,6 +108,7 @@ impl Operation {
         }
     }
 
+    // Stays: three chains, here and below: a function over the test would state each test again in its contract.
     /// The operation with this opcode and, in a word whose Imm is 0, this op2.
     pub fn coded(opcode: u8, op2: u8) -> Option<Operation>
         ensures { result ≡ coded opcode op2 }

@@ -10,7 +10,7 @@ ghost use Rattle.worked.specs.WorkedLaws.{worked_laws};
 
 use machine::{Lawful, board_follows_reading};
 
-// The worked machine with words of so many bytes.
+// The worked machine with words of four bytes where BYTES is 4, and of two bytes otherwise.
 #[derive(Drop)]
 pub struct WordsOf<const BYTES: usize>;
 
