@@ -97,3 +97,8 @@ bytes_bound (b ∷ bs) =
     front_bytes : (ls : List (List ℕ)) (n : ℕ) → bytes_with_ends ls ≤ n + 1 → bytes_with_ends (front b ls) ≤ n + 2
     front_bytes [] n h = omega arith
     front_bytes (l ∷ ls) n h = let x : length (b ∷ l) ≡ suc (length l) = refl in omega arith
+
+-- how much is left behind a cut, with one for the separator
+abbrev pub left_of : Option (List ℕ) → ℕ
+left_of None = 0
+left_of (Some bs) = length bs + 1

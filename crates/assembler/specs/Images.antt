@@ -1,9 +1,9 @@
 -- The image: the bytes of all lines, one behind the other.
-use Rattle.std.specs.Prelude.{ℕ, ◌+◌, Bool, false, not, List, [], ◌∷◌, ◌++◌, is_some, Some, None, Ok, Err, Option, Result}
+use Rattle.std.specs.Prelude.{◌≡◌, ℕ, ◌+◌, Bool, true, false, not, List, [], ◌∷◌, ◌++◌, is_some, Some, None, Ok, Err, Option, Result}
 use Rattle.std.specs.List.{position}
 use Rattle.std.specs.Option.{option_map}
 use Rattle.syntax.specs.declared.statements.LineFault.{LineFault}
-use Rattle.syntax.specs.Data.{Datum, data_in, data_bytes, bytes_of}
+use Rattle.syntax.specs.Data.{Datum, string, numbers, all_fit, data_in, data_bytes, bytes_of}
 use Rattle.syntax.specs.Rows.{Value, plain, address_of, Row, registers, immediate, negation, constant, load_from, store_to, branch_to, long_shift}
 use Rattle.syntax.specs.Statements.{Statement, empty, labelled, code, statement_in}
 use Rattle.assembler.specs.declared.records.LabelRecord.{LabelRecord}
@@ -69,13 +69,21 @@ abbrev pub word_bytes : List ℕ → List ℕ
 word_bytes [] = []
 word_bytes (w ∷ ws) = bytes_of w ++ word_bytes ws
 
--- The bytes of a line.
+-- The bytes of a part, and of a line.
 abbrev pub part_bytes : (List ℕ → ℕ) → Option Part → List ℕ
 part_bytes address None = []
 part_bytes address (Some (instruction r)) = word_bytes (words (value_in address r) r)
 part_bytes address (Some (datum d)) = data_bytes d
 
+abbrev pub line_bytes : (List ℕ → ℕ) → List ℕ → List ℕ
+line_bytes address l = part_bytes address (part_of (statement_in l))
+
 -- The image of some lines.
 abbrev pub image_of : (List ℕ → ℕ) → List (List ℕ) → List ℕ
 image_of address [] = []
-image_of address (l ∷ ls) = part_bytes address (part_of (statement_in l)) ++ image_of address ls
+image_of address (l ∷ ls) = line_bytes address l ++ image_of address ls
+
+-- Data whose numbers are well formed and in range.
+abbrev pub FitData : Datum → Type 0
+FitData (string t) = Unit {0}
+FitData (numbers ps) = all_fit ps ≡ true

@@ -3,6 +3,7 @@
 
 mod assemble;
 mod expansion;
+mod image;
 mod labels;
 mod layout;
 mod lines;

@@ -1,5 +1,5 @@
 // A table over lent records: the first `count` of them are filled. Written once for any kind of record.
-ghost use Rattle.std.specs.Prelude.{◌≡◌, ◌+◌, ◌<◌, ◌≤◌, not, [], ◌∷◌, ◌++◌, length, take, drop, is_ok, if◌then◌else◌, MatchOption, nat_lt, slice_index_or, slice_set};
+ghost use Rattle.std.specs.Prelude.{◌≡◌, ◌+◌, ◌-◌, ◌<◌, ◌≤◌, not, [], ◌∷◌, ◌++◌, length, take, drop, is_ok, if◌then◌else◌, MatchOption, nat_lt, slice_index_or, slice_set};
 
 /// No record is free.
 #[derive(Clone, Copy, PartialEq, Eq, Debug)]
@@ -35,6 +35,13 @@ impl<'a, R: Copy> Table<'a, R> {
         ensures { result.now ≡ take self.now.count self.now.records.now }
     {
         &self.records[..self.count]
+    }
+
+    /// How many are free.
+    pub fn free(&self) -> usize
+        ensures { result ≡ length self.now.records.now - self.now.count }
+    {
+        self.records.len() - self.count
     }
 
     /// Whether none is free.
