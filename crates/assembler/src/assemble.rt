@@ -5,6 +5,7 @@ ghost use Rattle.assembler.specs.Answers.{assembled, of_lines, passed, named, su
 ghost use Rattle.assembler.specs.Images.{address_in, first_undefined, image_of};
 ghost use Rattle.assembler.specs.Placing.{room, state_of, start, place};
 ghost use Rattle.assembler.specs.Tables.{filled, size, Spared};
+ghost use Rattle.assembler.specs.Laws.{AddressesFit};
 
 use crate::image::put_image;
 use crate::layout::place_lines;
@@ -127,3 +128,8 @@ pub fn assemble(
     let mut lines = Table::new(lines);
     assemble_lines(text, &mut image, &mut labels, &mut lines)
 }
+
+/// Every address of an accepted text, its end included, is below the ports.
+pub fn addresses_fit()
+    ensures { AddressesFit }
+{}

@@ -14,7 +14,7 @@ mod refusals;
 mod table;
 mod uses;
 
-pub use assemble::{Assembled, Refused};
+pub use assemble::{Assembled, Refused, addresses_fit, assemble};
 pub use expansion::{Spelling, counts_stand, spell, word_count};
 pub use labels::find_label;
 pub use lines::{count_lines, next_line};
