@@ -1,5 +1,5 @@
 -- Every address of an accepted text is below the ports.
-use Rattle.std.proofs.Common.{◌≡◌, ℕ, ◌+◌, ◌*◌, ◌/◌, ◌<◌, ◌≤◌, min, Bool, true, false, cond, leb, ltb, List, [], ◌∷◌, ◌++◌, length, is_some, Some, None, Ok, Err, Option, Result, refl, sym, ap, ◌∙◌, subst, arith}
+use Rattle.std.proofs.Common.{◌≡◌, ℕ, ◌+◌, ◌*◌, ◌/◌, ◌<◌, ◌≤◌, min, Bool, true, false, cond, leb, ltb, List, [], ◌∷◌, ◌++◌, length, is_some, Some, None, Ok, Err, Option, Result, refl, sym, ap, subst, arith}
 use Rattle.std.specs.List.{All}
 use Rattle.std.proofs.lemmas.List.Elements.{All-nil, All-push, All-weaker}
 use Rattle.std.proofs.lemmas.Bool.Decides.{nat_tests}
@@ -17,7 +17,7 @@ use Rattle.assembler.specs.declared.records.Refusal.TheVariants.{LabelTwice, NoL
 use Rattle.assembler.specs.Expansions.{word_count}
 use Rattle.assembler.specs.Placing.{Room, Placing, Course, Whole, Stopped, behind, start, label_record, line_record, label_named, place_code, place_data, place_rest, place_label, place_statement, place_line, place}
 use Rattle.assembler.specs.Images.{address_in, first_undefined, image_of}
-use Rattle.assembler.specs.Answers.{Answer, accepted, refused, sized, named, passed, of_lines, assembled}
+use Rattle.assembler.specs.Answers.{accepted, refused, named, passed, of_lines}
 use Rattle.assembler.specs.Laws.{AddressesFit}
 use Rattle.assembler.proofs.Bounds.{line_moves}
 use Rattle.assembler.proofs.Cutting.{bytes_with_ends, bytes_bound}

@@ -1,10 +1,10 @@
 -- A row that a line says has passed its questions.
-use Rattle.std.proofs.Common.{◌≡◌, ℕ, Bool, true, false, cond, List, Some, None, Ok, Err, Option, Result, refl, sym, ap, ◌∙◌, subst, arith}
+use Rattle.std.proofs.Common.{◌≡◌, ℕ, Bool, true, false, cond, List, Some, None, Ok, Err, Option, Result, refl, subst, arith}
 use Rattle.syntax.specs.declared.statements.LineFault.{LineFault}
 use Rattle.syntax.specs.declared.rows.InstructionFault.TheVariants.{OutOfRange, WrongRegister}
 use Rattle.syntax.specs.Numbers.{number}
 use Rattle.syntax.specs.Rows.{Row, in_range, registers_fit, asked, judged, row_of}
-use Rattle.syntax.specs.Statements.{Line, blank, comment, label, instruction, Statement, code, line_by, with_row, said_by, statement_in}
+use Rattle.syntax.specs.Statements.{Line, blank, comment, label, instruction, code, line_by, with_row, said_by, statement_in}
 
 -- A row in range with the right registers.
 pub record Passed (r : Row) : Type 0 where

@@ -1,5 +1,5 @@
 -- The image is as long as the next address says.
-use Rattle.std.proofs.Common.{◌≡◌, ℕ, ◌+◌, ◌*◌, ◌/◌, min, Bool, true, false, cond, ltb, List, [], ◌∷◌, ◌++◌, length, map, is_some, Some, None, Ok, Err, Option, Result, refl, sym, ap, ◌∙◌, subst, length-append, arith}
+use Rattle.std.proofs.Common.{◌≡◌, ℕ, ◌+◌, ◌*◌, ◌/◌, min, Bool, true, false, cond, ltb, List, [], ◌∷◌, ◌++◌, length, is_some, Some, None, Ok, Err, Option, Result, refl, sym, ap, subst, length-append, arith}
 use Rattle.std.specs.Option.{option_map}
 use Rattle.std.proofs.lemmas.List.{length-map}
 use Rattle.word.specs.Words.{encoded}
@@ -13,7 +13,7 @@ use Rattle.assembler.specs.declared.records.LineKind.TheVariants.{Instruction, D
 use Rattle.assembler.specs.declared.records.Refusal.{Refusal}
 use Rattle.assembler.specs.declared.records.Refusal.TheVariants.{LabelTwice, NoLabelRecord, NoLineRecord}
 use Rattle.assembler.specs.Expansions.{spelled, words, word_count, value_in}
-use Rattle.assembler.specs.Placing.{Room, Placing, Course, Whole, Stopped, behind, label_record, line_record, label_named, place_code, place_data, place_rest, place_label, place_statement, place_line, place}
+use Rattle.assembler.specs.Placing.{Room, Placing, Whole, Stopped, behind, label_record, line_record, label_named, place_code, place_data, place_rest, place_label, place_statement, place_line, place}
 use Rattle.assembler.specs.Images.{Part, data_part, part_of, word_bytes, part_bytes, line_bytes, image_of}
 use Rattle.assembler.proofs.Counts.{counts_stand}
 use Rattle.assembler.proofs.Judged.{code_passed}

@@ -1,8 +1,8 @@
 -- What assembling a text comes to: all questions in their order.
 use Rattle.std.specs.Prelude.{ℕ, cond, List, [], ◌++◌, length, drop, Some, None, Ok, Err, Option, Result, nat_le}
 use Rattle.syntax.specs.Cuts.{lines}
-use Rattle.assembler.specs.declared.assemble.Assembled.{Assembled}
-use Rattle.assembler.specs.declared.assemble.Refused.{Refused}
+use Rattle.assembler.specs.declared.assembling.Assembled.{Assembled}
+use Rattle.assembler.specs.declared.assembling.Refused.{Refused}
 use Rattle.assembler.specs.declared.records.LabelRecord.{LabelRecord}
 use Rattle.assembler.specs.declared.records.LineRecord.{LineRecord}
 use Rattle.assembler.specs.declared.records.Refusal.{Refusal}

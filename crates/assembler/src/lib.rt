@@ -1,7 +1,7 @@
 // A text to its image.
 #![tactic(auto)]
 
-mod assemble;
+mod assembling;
 mod expansion;
 mod image;
 mod labels;
@@ -14,7 +14,7 @@ mod refusals;
 mod table;
 mod uses;
 
-pub use assemble::{Assembled, Refused, addresses_fit, assemble};
+pub use assembling::{Assembled, Refused, addresses_fit, assemble};
 pub use expansion::{Spelling, counts_stand, spell, word_count};
 pub use labels::find_label;
 pub use lines::{count_lines, next_line};

@@ -1,4 +1,3 @@
-use Rattle.std.proofs.Common.{rules}
 use Rattle.assembler.proofs.Laying.{spared_on}
 use Rattle.assembler.proofs.image.put_text.Goals as goal
 

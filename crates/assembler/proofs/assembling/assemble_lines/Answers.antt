@@ -1,10 +1,10 @@
-use Rattle.std.proofs.Common.{◌≡◌, length, arith}
+use Rattle.std.proofs.Common.{◌≡◌, arith}
 use Rattle.syntax.specs.Cuts.{lines}
-use Rattle.assembler.specs.Images.{address_in, image_of}
+use Rattle.assembler.specs.Images.{address_in}
 use Rattle.assembler.specs.Placing.{Whole, room, state_of, start, place}
 use Rattle.assembler.specs.Tables.{filled, size}
 use Rattle.assembler.proofs.Lengths.{image_long}
-use Rattle.assembler.proofs.assemble.assemble_lines.Goals as goal
+use Rattle.assembler.proofs.assembling.assemble_lines.Goals as goal
 
 pub put_placed-requires-clause-long : goal.put_placed-requires-clause-long
 put_placed-requires-clause-long c =
