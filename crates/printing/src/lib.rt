@@ -1,0 +1,87 @@
+// What is printed for a text: its words, or why it is refused.
+#![tactic(auto)]
+
+ghost use Rattle.std.specs.Prelude.{◌≡◌, [], ◌∷◌, ◌++◌, codes, length, IfOk, OnOk};
+ghost use Rattle.hex.specs.Hex.{encode_lower};
+ghost use Rattle.assembler.specs.Answers.{assembled};
+ghost use Rattle.assembler.specs.Placing.{room};
+ghost use Rattle.printing.specs.Printed.{word_lines, refusal_line, bytes_of, printed_for, printed};
+
+use assembler::{LabelRecord, LineKind, LineRecord, Refused, assemble};
+use std::alloc::{AllocError, Global};
+
+// What fills the tables before a text is assembled.
+const NO_LABEL: LabelRecord = LabelRecord {
+    place: 0,
+    length: 0,
+    address: 0,
+};
+
+const NO_LINE: LineRecord = LineRecord {
+    line: 0,
+    address: 0,
+    words: 0,
+    kind: LineKind::Data,
+};
+
+// A word by its bytes.
+fn print_word(high: u8, low: u8, out: &mut Vec<u8>) -> Result<(), AllocError>
+    ensures { OnOk result (out.new.items ≡ out.old.items ++ (encode_lower (high ∷ low ∷ []) ++ codes "\n")) }
+{
+    let mut digits = *b"0000\n";
+    let _ = hex::encode_to_slice([high, low], &mut digits[..4]);
+    out.extend_from_slice(&digits)
+}
+
+// The words of an image, a line each.
+fn print_words(heap: Global, image: &[u8]) -> Result<Vec<u8>, AllocError>
+    ensures { IfOk result (λ out. out.items ≡ word_lines image.now) }
+{
+    let mut out = Vec::new(heap);
+    let mut left = image;
+    while let [high, low, rest @ ..] = left {
+        print_word(*high, *low, &mut out)?;
+        left = rest;
+    }
+    Ok(out)
+}
+
+fn print_refusal(heap: Global, refused: Refused) -> Result<Vec<u8>, AllocError>
+    ensures { IfOk result (λ out. out.items ≡ refusal_line refused.refusal refused.line) }
+{
+    let number = refused.refusal.number();
+    let line = refused.line;
+    let message = format!(in heap; "refused {number} line {line}\n")?;
+    Vec::from_slice(heap, message.as_bytes())
+}
+
+fn print_over(
+    heap: Global,
+    text: &[u8],
+    image: &mut [u8],
+    labels: &mut [LabelRecord],
+    lines: &mut [LineRecord],
+) -> Result<Result<Vec<u8>, Vec<u8>>, AllocError>
+    ensures { IfOk result (λ r. bytes_of r ≡ printed_for (assembled (room (length labels.old) (length lines.old)) (length image.old) text.now)) }
+{
+    match assemble(text, image, labels, lines) {
+        Ok(assembled) => Ok(Ok(print_words(heap, &image[..assembled.length])?)),
+        Err(refused) => Ok(Err(print_refusal(heap, refused)?)),
+    }
+}
+
+/// What is printed for a text: its words, or in `Err` the line that says why it is refused.
+pub fn print(heap: Global, text: &[u8]) -> Result<Result<Vec<u8>, Vec<u8>>, AllocError>
+    ensures { IfOk result (λ r. bytes_of r ≡ printed text.now) }
+{
+    let mut image = vec![in heap; 0u8; 65_536]?;
+    let mut labels = vec![in heap; NO_LABEL; 256]?;
+    let mut lines = vec![in heap; NO_LINE; 2_048]?;
+    print_over(
+        heap,
+        text,
+        image.as_mut_slice(),
+        labels.as_mut_slice(),
+        lines.as_mut_slice(),
+    )
+}
