@@ -2,11 +2,11 @@
 use crate::cases::Case;
 use crate::digest::{kind_name, of_bytes, of_labels, of_lines};
 use anyhow::Result;
-use assembler::{LabelRecord, LineKind, LineRecord, assemble};
+use assembler::{Assembled, LabelRecord, LineKind, LineRecord, Refused, assemble};
 use std::alloc::Global;
 use std::fmt::Write;
 
-// Longer images and tables are told apart by their digests.
+// What is longer is told apart by its digest.
 const MOST_SHOWN: usize = 48;
 
 // What everything lent is full of beforehand.
@@ -53,25 +53,33 @@ impl Lent {
             self.lines.as_mut_slice(),
         );
         match answer {
-            Ok(done) => {
-                let length = done.length;
-                let labels = done.labels;
-                let lines = done.lines;
+            Ok(
+                Assembled {
+                    length,
+                    labels,
+                    lines,
+                },
+            ) => {
                 writeln!(out, "accepted {length} {labels} {lines}")?;
                 self.write_image(length, out)?;
                 self.write_records(labels, lines, out)
             }
-            Err(no) => {
-                let number = no.refusal.number();
-                let line = no.line;
-                let labels = no.labels;
-                let lines = no.lines;
+            Err(
+                Refused {
+                    refusal,
+                    line,
+                    labels,
+                    lines,
+                },
+            ) => {
+                let number = refusal.number();
                 writeln!(out, "refused {number} {line} {labels} {lines}")?;
                 self.write_records(labels, lines, out)
             }
         }
     }
 
+    // A short image byte by byte.
     fn write_image(&self, length: usize, out: &mut String) -> Result<()> {
         if length == 0 || MOST_SHOWN < length {
             return Ok(());
@@ -84,19 +92,22 @@ impl Lent {
         Ok(())
     }
 
+    // The first records of each table.
     fn write_records(&self, labels: usize, lines: usize, out: &mut String) -> Result<()> {
         for label in self.labels.iter().take(labels.min(MOST_SHOWN)) {
-            let place = label.place;
-            let length = label.length;
-            let address = label.address;
-            writeln!(out, "label {place} {length} {address}")?;
+            writeln!(
+                out,
+                "label {} {} {}",
+                label.place, label.length, label.address
+            )?;
         }
-        for record in self.lines.iter().take(lines.min(MOST_SHOWN)) {
-            let line = record.line;
-            let address = record.address;
-            let words = record.words;
-            let kind = kind_name(record.kind);
-            writeln!(out, "line {line} {address} {words} {kind}")?;
+        for line in self.lines.iter().take(lines.min(MOST_SHOWN)) {
+            let kind = kind_name(line.kind);
+            writeln!(
+                out,
+                "line {} {} {} {kind}",
+                line.line, line.address, line.words
+            )?;
         }
         Ok(())
     }
