@@ -243,6 +243,19 @@ class Instruction:
         return self.row.spell(self.mnemonic, *values)
 
 
+class Data:
+    """The data of a label line."""
+
+    def __init__(self, number, words):
+        self.number, self.its_words = number, words
+
+    def used(self):
+        return []
+
+    def words(self, _):
+        return self.its_words
+
+
 def read_instruction(number, line):
     first, rest = halves(line[1:])
     mnemonic = first.decode("ascii")
@@ -271,7 +284,7 @@ class Assembly:
         self.labels, self.lines = [], []
         self.addresses = {}
         self.address = 0
-        # The words of data as they are, and instructions, which have to wait for the labels behind them.
+        # What the lines spell, which has to wait for the labels behind them.
         self.parts = []
 
     def read(self, text):
@@ -298,7 +311,7 @@ class Assembly:
 
     def read_instruction_line(self, number, line):
         instruction = read_instruction(number, line)
-        self.add_line(number, words_in(instruction.row, instruction.mnemonic), "instruction", instruction)
+        self.add_line(words_in(instruction.row, instruction.mnemonic), "instruction", instruction)
 
     def read_label_line(self, number, place, line):
         """The label's record is written last: a line that is refused has written nothing."""
@@ -314,29 +327,25 @@ class Assembly:
             words = data_words(data)
             if words is None:
                 raise No(8, number)
-            self.add_line(number, len(words), "data", words)
+            self.add_line(len(words), "data", Data(number, words))
         self.labels.append(label)
         self.addresses[name] = label.address
 
-    def add_line(self, number, words, kind, part):
+    def add_line(self, words, kind, part):
         if len(self.lines) == self.most_lines:
-            raise No(13, number)
-        self.lines.append(Line(number, self.address, words, kind))
+            raise No(13, part.number)
+        self.lines.append(Line(part.number, self.address, words, kind))
         self.parts.append(part)
         self.address += 2 * words
 
     def image(self, size):
-        instructions = [part for part in self.parts if isinstance(part, Instruction)]
-        for instruction in instructions:
-            if any(name not in self.addresses for name in instruction.used()):
-                raise No(14, instruction.number)
+        for part in self.parts:
+            if any(name not in self.addresses for name in part.used()):
+                raise No(14, part.number)
         if self.address > size:
             raise No(15, 0)
-        image = bytearray()
-        for part in self.parts:
-            for word in part.words(self.addresses) if isinstance(part, Instruction) else part:
-                image += word.to_bytes(2, "big")
-        return bytes(image)
+        words = (word for part in self.parts for word in part.words(self.addresses))
+        return b"".join(word.to_bytes(2, "big") for word in words)
 
 
 def assemble(text, image_size, label_records, line_records):
