@@ -19,7 +19,7 @@ const MOST_BYTES: usize = 32_768;
 const MOST_LINES: usize = 2_048;
 
 /// What an accepted text came to: the image's length in bytes, and how many records each table holds.
-#[derive(Clone, Copy)]
+#[derive(Clone, Copy, PartialEq, Eq, Debug)]
 pub struct Assembled {
     pub length: usize,
     pub labels: usize,

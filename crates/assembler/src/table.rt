@@ -27,7 +27,7 @@ impl<'a, R: Copy> Table<'a, R> {
     pub fn len(&self) -> usize
         ensures { result ≡ self.now.count }
     {
-        self.count
+        self.filled().len()
     }
 
     /// Those that are filled.
