@@ -1,7 +1,6 @@
 """The assembler, written a second time: a text to its image and tables, or to the first question that it fails.
 
-It follows docs/TEXT.md and docs/REFUSALS.md and shares nothing with the crates. Run as a script, it reads a text from
-standard input and prints each word of the image as four hexadecimal digits.
+It follows docs/TEXT.md and docs/REFUSALS.md and shares nothing with the crates.
 """
 import re
 import sys
@@ -358,16 +357,3 @@ def assemble(text, image_size, label_records, line_records):
     except No as no:
         refused = no.number, no.line
     return Answer(refused, image, assembly.labels, assembly.lines)
-
-
-def main():
-    answer = assemble(sys.stdin.buffer.read(), 65536, MOST_LABELS, MOST_LINES)
-    if answer.refused:
-        print("refused %d line %d" % answer.refused)
-        sys.exit(1)
-    for word in words_of_bytes(answer.image):
-        print(f"{word:04x}")
-
-
-if __name__ == "__main__":
-    main()

@@ -11,7 +11,7 @@ import sys
 
 HERE = pathlib.Path(__file__).resolve().parent
 # Each of these modules has a function outputs(): paths from the repository's root, and the bytes of each.
-MODULES = ["all_words", "listing", "bus_calls", "texts"]
+MODULES = ["all_words", "listing", "bus_calls", "printing", "texts"]
 
 
 def main():
