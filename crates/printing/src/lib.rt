@@ -85,3 +85,44 @@ pub fn print(heap: Global, text: &[u8]) -> Result<Result<Vec<u8>, Vec<u8>>, Allo
         lines.as_mut_slice(),
     )
 }
+
+#[cfg(test)]
+mod tests {
+    use super::*;
+    use std::process::Abort;
+    use std::test::Fail;
+
+    fn words(rt: &impl Abort, heap: Global, text: &[u8], expected: &[u8]) -> Result<(), Fail> {
+        let printed = print(heap, text)?;
+        assert!(rt; printed.is_ok_and(|words| words.as_slice() == expected));
+        Ok(())
+    }
+
+    fn refusal(rt: &impl Abort, heap: Global, text: &[u8], expected: &[u8]) -> Result<(), Fail> {
+        let printed = print(heap, text)?;
+        assert!(rt; printed.is_err_and(|line| line.as_slice() == expected));
+        Ok(())
+    }
+
+    #[test]
+    fn words_of_texts(rt: HostRuntime) -> Result<(), Fail> {
+        words(&rt, rt.alloc(), b"", b"")?;
+        words(
+            &rt,
+            rt.alloc(),
+            b"\tadd r1,127\n\tldc r1,255\n",
+            b"597f\n99ff\n",
+        )?;
+        words(&rt, rt.alloc(), b"a \"abc\"\nb \"\"", b"6162\n6300\n0000\n")?;
+        words(&rt, rt.alloc(), b"\tldi r1,5", b"9900\n9905\n")
+    }
+
+    #[test]
+    fn refusals_of_texts(rt: HostRuntime) -> Result<(), Fail> {
+        refusal(&rt, rt.alloc(), b"\tadd r1,128", b"refused 11 line 1\n")?;
+        refusal(&rt, rt.alloc(), b"\n\tldc r1,256", b"refused 11 line 2\n")?;
+        refusal(&rt, rt.alloc(), b"a\na", b"refused 6 line 2\n")?;
+        refusal(&rt, rt.alloc(), b"\tldi r1,k", b"refused 14 line 1\n")?;
+        refusal(&rt, rt.alloc(), &[b'\n'; 2_049], b"refused 2 line 2049\n")
+    }
+}
