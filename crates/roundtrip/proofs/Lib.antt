@@ -1,0 +1,4 @@
+pub mod Cuts
+pub mod Operands
+pub mod Lines
+pub mod Images
