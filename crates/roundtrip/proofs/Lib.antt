@@ -1,4 +1,6 @@
 pub mod Cuts
 pub mod Operands
 pub mod Lines
+pub mod Instructions
 pub mod Images
+pub mod Backs

@@ -1,2 +1,3 @@
-use Rattle.roundtrip.proofs.Lines.{line_says}
+use Rattle.roundtrip.proofs.Images.{line_comes}
+use Rattle.roundtrip.proofs.Backs.{back}
 use Rattle.roundtrip.proofs.NotBack.number.Goals as goal
