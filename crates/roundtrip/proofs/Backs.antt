@@ -1,9 +1,9 @@
 -- A listed word's line, assembled.
-use Rattle.std.proofs.Common.{◌≡◌, ℕ, ◌<◌, ◌≤◌, Bool, true, false, cond, leb, List, [], ◌∷◌, ◌++◌, length, take, drop, is_ok, IsErr, IsErrAnd, Some, None, Ok, Err, Option, Result, refl, ap, ◌∙◌, sym, subst, arith, is_some}
+use Rattle.std.proofs.Common.{◌≡◌, ℕ, ◌<◌, ◌≤◌, true, false, cond, leb, List, [], ◌∷◌, ◌++◌, length, take, drop, is_ok, IsErr, IsErrAnd, Some, None, Ok, Err, Option, Result, refl, ap, ◌∙◌, sym, arith, is_some}
 use Rattle.std.proofs.Math.Seq.{take-append_seam}
 use Rattle.std.proofs.lemmas.Bool.Decides.{nat_tests}
 use Rattle.word.specs.declared.instructions.Instruction.{Instruction}
-use Rattle.word.specs.Words.{encoded, decoded, is_valid}
+use Rattle.word.specs.Words.{decoded}
 use Rattle.word.proofs.Back.{encodes_back}
 use Rattle.lister.specs.declared.listing.Refusal as L
 use Rattle.lister.specs.declared.listing.Refusal.TheVariants.{DoesNotFit}
@@ -17,7 +17,7 @@ use Rattle.assembler.specs.declared.records.LineKind.TheVariants.{Instruction as
 use Rattle.assembler.specs.Placing.{room, start, line_record}
 use Rattle.roundtrip.specs.declared.NotBack.{NotBack}
 use Rattle.roundtrip.specs.declared.NotBack.TheVariants.{NotValid, Refused}
-use Rattle.assembler.specs.Answers.{Answer, accepted, assembled, summary, image_in, lines_in, over}
+use Rattle.assembler.specs.Answers.{accepted, assembled, summary, image_in, lines_in, over}
 use Rattle.roundtrip.specs.Back.{assembled_line, passed_on, answer_to, answer as answer_for, image_of, image_after, records_of, lines_after, ComesBack}
 use Rattle.roundtrip.proofs.Instructions.{Line, lined}
 use Rattle.roundtrip.proofs.Images.{text_short, line_comes}

@@ -1,5 +1,5 @@
 -- An instruction's line is assembled to that instruction's word.
-use Rattle.std.proofs.Common.{◌≡◌, ℕ, ◌+◌, ◌*◌, ◌≤◌, Bool, true, false, cond, not, leb, ltb, List, [], ◌∷◌, ◌++◌, length, Some, None, Ok, Err, Option, Result, refl, ap, ◌∙◌, sym, length-append, arith}
+use Rattle.std.proofs.Common.{◌≡◌, ℕ, ◌+◌, ◌*◌, ◌≤◌, Bool, true, false, cond, not, leb, ltb, List, [], ◌∷◌, ◌++◌, length, Some, None, Ok, Err, ap, ◌∙◌, length-append, arith}
 use Rattle.std.specs.List.{position}
 use Rattle.std.specs.Option.{option_map}
 use Rattle.std.proofs.lemmas.Bool.Decides.{nat_tests}
@@ -13,9 +13,9 @@ use Rattle.assembler.specs.declared.records.LineKind.TheVariants as K
 use Rattle.assembler.specs.declared.records.LineRecord.{LineRecord}
 use Rattle.assembler.specs.declared.records.Refusal.TheVariants.{TextTooLong, TooManyLines, ImageTooLong, NoLineRecord}
 use Rattle.assembler.specs.Expansions.{value_in, word_count}
-use Rattle.assembler.specs.Placing.{Placing, Course, Whole, Stopped, room, start, behind, line_record, place_statement, place}
+use Rattle.assembler.specs.Placing.{Whole, Stopped, room, start, behind, line_record, place_statement, place}
 use Rattle.assembler.specs.Images.{used_by, is_undefined, first_undefined, address_in, word_bytes, part_of, part_bytes, image_of}
-use Rattle.assembler.specs.Answers.{accepted, refused, passed, named, of_lines, assembled}
+use Rattle.assembler.specs.Answers.{accepted, refused, passed, named, of_lines}
 use Rattle.roundtrip.specs.Back.{assembled_line}
 use Rattle.roundtrip.proofs.Cuts.{one_line}
 use Rattle.roundtrip.proofs.Instructions.{Line}
@@ -59,7 +59,7 @@ module _ (i : Instruction) (line : Line i) where
     names_none =
         ap (first_undefined (line_of i) []) alone
         ∙ ap (option_map (λ n. n + 1)) (none_passes (λ l. is_undefined (line_of i) [] (used_by (statement_in l))) inner
-            (ap (λ r. is_undefined (line_of i) [] (used_by r)) line.says.says ∙ ap (is_undefined (line_of i) []) line.uses))
+        (ap (λ r. is_undefined (line_of i) [] (used_by r)) line.says.says ∙ ap (is_undefined (line_of i) []) line.uses))
 
     image_comes : (address : List ℕ → ℕ) → image_of address (lines (line_of i)) ≡ bytes_of (encoded i)
     image_comes address =

@@ -1,5 +1,5 @@
 -- The line of each instruction says a row that spells that instruction.
-use Rattle.std.proofs.Common.{◌≡◌, ℕ, ◌<◌, true, List, [], ◌∷◌, ◌++◌, length, map, Some, None, Option, refl, ap, ◌∙◌, sym, subst, arith}
+use Rattle.std.proofs.Common.{◌≡◌, ℕ, ◌<◌, true, List, [], ◌∷◌, map, Some, None, Option, refl, ap, ◌∙◌, sym, subst, arith}
 use Rattle.word.specs.declared.registers.Register.{Register}
 use Rattle.word.specs.declared.instructions.Computation.{Computation}
 use Rattle.word.specs.declared.instructions.Computation.TheVariants.{And, Or, Xor, Slt, Sltu, Add, Sub}
@@ -41,10 +41,10 @@ registers_say : (x : Operation) (a b c : Register) (s : Option Shape) → (row x
     → keeps_zero s a b c ≡ true → Says (line_of_fields (Registers x a b c)) (registers x a b c)
 registers_say x a b c s is opens fills fits =
     subst (λ (t : List ℕ). Says (line_with (row x).name t) (registers x a b c))
-        (sym (ap (λ o. operands o (three_registers a b c)) is ∙ opens))
-        (line_says x (three_registers a b c) (three (register a) (register b) (register c)) (registers x a b c)
-            (three_read (register_text a) (register_text b) (register_text c) (register a) (register b) (register c) (register-back a) (register-back b) (register-back c) refl refl refl)
-            (ap (λ o. fills_fields o x a b c) is ∙ fills) refl (ap (λ o. keeps_zero o a b c) is ∙ fits))
+    (sym (ap (λ o. operands o (three_registers a b c)) is ∙ opens))
+    (line_says x (three_registers a b c) (three (register a) (register b) (register c)) (registers x a b c)
+    (three_read (register_text a) (register_text b) (register_text c) (register a) (register b) (register c) (register-back a) (register-back b) (register-back c) refl refl refl)
+    (ap (λ o. fills_fields o x a b c) is ∙ fills) refl (ap (λ o. keeps_zero o a b c) is ∙ fits))
 
 of_registers_lem : (i : Instruction) (x : Operation) (a b c : Register) → Says (line_of i) (registers x a b c)
     → with_registers x a b c ≡ Some i → Line i
@@ -84,9 +84,9 @@ of_immediate_lem i x a n takes small line is row_is = record {
     says : Says (line_of_fields (Immediate x a n)) (immediate x a (value (row x).immediate n))
     says = subst (λ (o : Option Extension). Says (line_with (row x).name (32 ∷ register_and_number o a n)) (immediate x a (value o n))) (sym takes.is)
         (line_says x (register_and_number (Some e) a n) (two (register a) (numeral (value (Some e) n))) (immediate x a (value (Some e) n))
-            (two_read (register_text a) (immediate_text (Some e) n) (register a) (numeral (value (Some e) n)) (register-back a) reads.reads (omega arith))
-            (subst (λ (o : Option Extension). of_number (OfWord x) a (value o n) ≡ Some (immediate x a (value o n))) takes.is row_is)
-            (ap (λ o. fits_byte o (value (Some e) n)) takes.is ∙ reads.range) refl)
+        (two_read (register_text a) (immediate_text (Some e) n) (register a) (numeral (value (Some e) n)) (register-back a) reads.reads (omega arith))
+        (subst (λ (o : Option Extension). of_number (OfWord x) a (value o n) ≡ Some (immediate x a (value o n))) takes.is row_is)
+        (ap (λ o. fits_byte o (value (Some e) n)) takes.is ∙ reads.range) refl)
 
 computes_take : (c : Computation) → Takes (Computes c)
 computes_take And = record { extension = ZeroExtended; is = refl }

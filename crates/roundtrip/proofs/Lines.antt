@@ -1,9 +1,8 @@
 -- What an instruction's line says.
-use Rattle.std.proofs.Common.{◌≡◌, ℕ, ◌+◌, ◌<◌, ◌≤◌, Bool, true, false, cond, ◌&&◌, leb, List, [], ◌∷◌, ◌++◌, length, Some, None, Ok, Err, Option, refl, ap, ◌∙◌, sym, subst, append_assoc, length-append, arith, lit<}
+use Rattle.std.proofs.Common.{◌≡◌, ℕ, ◌+◌, ◌<◌, ◌≤◌, true, cond, ◌&&◌, leb, List, [], ◌∷◌, ◌++◌, length, Some, Ok, Err, refl, ap, ◌∙◌, sym, append_assoc, length-append, arith, lit<}
 use Rattle.std.specs.List.{list_all}
 use Rattle.std.proofs.lemmas.List.Folds.{list_all-append}
 use Rattle.std.proofs.lemmas.Bool.Decides.{nat_tests}
-use Rattle.word.specs.declared.registers.Register.{Register}
 use Rattle.word.specs.declared.instructions.Computation.TheVariants.{And, Or, Xor, Slt, Sltu, Add, Sub}
 use Rattle.word.specs.declared.instructions.Shift.TheVariants.{Lsr, Asr}
 use Rattle.word.specs.declared.instructions.Width.TheVariants.{Byte, Word}
@@ -11,16 +10,16 @@ use Rattle.word.specs.declared.instructions.Condition.TheVariants.{Zero, NotZero
 use Rattle.word.specs.declared.instructions.Operation.{Operation}
 use Rattle.word.specs.declared.instructions.Operation.TheVariants.{Computes, Shifts, Loads, Stores, Branches, LoadsRegister, LoadsConstant, Halts}
 use Rattle.word.specs.Table.{row}
-use Rattle.lister.specs.Lines.{line_with, register_text, three_registers, immediate_text, register_and_number}
+use Rattle.lister.specs.Lines.{line_with}
 use Rattle.syntax.specs.declared.cuts.Separator.TheVariants.{Blank, Comma}
 use Rattle.syntax.specs.declared.mnemonics.Mnemonic.TheVariants.{OfWord}
 use Rattle.syntax.specs.declared.rows.InstructionFault.TheVariants.{OutOfRange, WrongRegister}
 use Rattle.syntax.specs.declared.statements.LineFault.TheVariants.{BadCharacters}
-use Rattle.syntax.specs.Cuts.{pieces, before, behind}
+use Rattle.syntax.specs.Cuts.{pieces, behind}
 use Rattle.syntax.specs.Mnemonics.{mnemonic_in}
 use Rattle.syntax.specs.Numbers.{number}
-use Rattle.syntax.specs.Operands.{Operand, register, numeral, Operands, two, three, and_then, operand_in, after_none, after_one, after_two, after_three, operands_in}
-use Rattle.syntax.specs.Rows.{Row, in_range, registers_fit, asked, judged, row_of}
+use Rattle.syntax.specs.Operands.{Operand, Operands, two, three, and_then, after_none, after_one, after_two, after_three, operands_in}
+use Rattle.syntax.specs.Rows.{Row, in_range, registers_fit, judged, row_of}
 use Rattle.syntax.specs.Statements.{is_plain, is_clean, code, with_operands, with_mnemonic, with_row, said_by, kind_by, statement_in}
 use Rattle.roundtrip.proofs.Cuts.{is_free, before_cut, behind_cut, pieces_cut, one_piece}
 use Rattle.roundtrip.proofs.Operands.{Reads}
@@ -91,7 +90,7 @@ three_read s t u a b c p q r k l m = record {
   short = let x = long_with 44 s (t ++ (44 ∷ u)) in let y = long_with 44 t u in omega arith;
   operands =
       ap (after_none number) (pieces_cut Comma 44 (t ++ (44 ∷ u)) refl s p.free
-          ∙ ap (λ ps. s ∷ ps) (pieces_cut Comma 44 u refl t q.free ∙ ap (λ ps. t ∷ ps) (one_piece Comma u r.free)))
+      ∙ ap (λ ps. s ∷ ps) (pieces_cut Comma 44 u refl t q.free ∙ ap (λ ps. t ∷ ps) (one_piece Comma u r.free)))
       ∙ ap (λ o. and_then o (λ a. after_one number a (t ∷ (u ∷ [])))) p.operand
       ∙ ap (λ o. and_then o (λ b. after_two number a b (u ∷ []))) q.operand
       ∙ ap (λ o. and_then o (λ c. after_three number a b c [])) r.operand;

@@ -1,12 +1,11 @@
 -- Operands as the lister writes them are read as what they are.
-use Rattle.std.proofs.Common.{◌≡◌, ℕ, zero, suc, ◌+◌, ◌-◌, ◌%◌, ◌<◌, ◌≤◌, Bool, true, false, cond, ◌&&◌, leb, List, [], ◌∷◌, ◌++◌, length, ℤ, pos, negsuc, Some, None, Option, refl, ap, ◌∙◌, sym, subst, arith, eqb, ltb}
+use Rattle.std.proofs.Common.{◌≡◌, ℕ, zero, suc, ◌+◌, ◌-◌, ◌<◌, ◌≤◌, Bool, true, false, cond, ◌&&◌, leb, List, [], ◌∷◌, length, ℤ, pos, negsuc, Some, None, Option, refl, ap, ◌∙◌, arith, eqb, ltb}
 use Rattle.std.specs.List.{list_all}
 use Rattle.std.proofs.lemmas.Bool.Decides.{nat_tests}
 use Rattle.std.specs.Fmt.{digits}
 use Rattle.word.specs.declared.registers.Register.{Register}
 use Rattle.word.specs.declared.table.Extension.{Extension}
 use Rattle.word.specs.declared.table.Extension.TheVariants.{ZeroExtended, SignExtended}
-use Rattle.word.specs.Registers.{register as numbered}
 use Rattle.word.proofs.Numbered.{same-register}
 use Rattle.lister.specs.Lines.{register_text, immediate_text}
 use Rattle.syntax.specs.declared.cuts.Separator.TheVariants.{Comma}

@@ -57,3 +57,65 @@ pub fn assemble_back(
     };
     Ok(assemble(&buffer[..n], image, &mut [], lines)?)
 }
+
+#[cfg(test)]
+mod tests {
+    use super::*;
+    use assembler::LineKind;
+    use std::process::Abort;
+    use std::test::Fail;
+
+    const NO_LINE: LineRecord = LineRecord {
+        line: 0,
+        address: 0,
+        words: 0,
+        kind: LineKind::Data,
+    };
+
+    fn comes_back(rt: &impl Abort, word: u16) -> Result<(), Fail> {
+        let mut image = [7; 3];
+        let mut lines = [NO_LINE; 2];
+        let assembled = assemble_back(word, &mut image, &mut lines)?;
+        assert_eq!(rt; assembled.length, 2);
+        assert_eq!(rt; assembled.lines, 1);
+        assert_eq!(rt; u16::from_be_bytes([image[0], image[1]]), word);
+        assert_eq!(rt; image[2], 7);
+        assert_eq!(rt; lines[0].words, 1);
+        assert_eq!(rt; lines[1], NO_LINE);
+        Ok(())
+    }
+
+    #[test]
+    fn words_come_back(rt: HostRuntime) -> Result<(), Fail> {
+        comes_back(&rt, 0x5328)?;
+        comes_back(&rt, 0x2DFF)?;
+        comes_back(&rt, 0x0003)
+    }
+
+    fn refused(rt: &impl Abort, word: u16, image: &mut [u8], lines: &mut [LineRecord], number: u8) {
+        match assemble_back(word, image, lines) {
+            Ok(_) => assert!(rt; false),
+            Err(refusal) => assert_eq!(rt; refusal.number(), number),
+        }
+    }
+
+    #[test]
+    fn words_that_are_not_valid(rt: HostRuntime) {
+        let mut image = [7; 2];
+        let mut lines = [NO_LINE];
+        refused(&rt, 0x0007, &mut image, &mut lines, 16);
+        refused(&rt, 0x7800, &mut image, &mut lines, 16);
+        refused(&rt, 0x7800, &mut [], &mut [], 16);
+        assert!(rt; image == [7; 2]);
+        assert!(rt; lines == [NO_LINE]);
+    }
+
+    #[test]
+    fn no_room(rt: HostRuntime) {
+        let mut image = [7; 2];
+        let mut lines = [NO_LINE];
+        refused(&rt, 0x5328, &mut [], &mut lines, 15);
+        refused(&rt, 0x5328, &mut image, &mut [], 13);
+        assert!(rt; image == [7; 2]);
+    }
+}
