@@ -22,9 +22,6 @@ use Rattle.roundtrip.specs.Back.{assembled_line, passed_on, answer_to, answer as
 use Rattle.roundtrip.proofs.Instructions.{Line, lined}
 use Rattle.roundtrip.proofs.Images.{text_short, line_comes}
 
-never : {X : Type 0} → ◌≡◌ {A = ℕ} 0 1 → X
-never z = absurd (omega arith)
-
 the_line : (w : ℕ) (i : Instruction) → w < 65536 → decoded w ≡ Some i → Line i
 the_line w i small is = lined i (encodes_back w i small is).1
 
@@ -43,7 +40,7 @@ not_listed w buffer f small long e = by (decoded w) refl e
     by None is e = refl
     by (Some i) is e =
         let g : ◌≡◌ {A = Result ℕ L.Refusal} (Err f) (Ok (length (line_of i))) = e ∙ ap (λ b. cond b (Ok (length (line_of i))) (Err DoesNotFit)) (fits w i buffer small is long) in
-        never cc
+        cc
 
 -- A text of so many bytes that is the line of a word's instruction.
 pub record Listed (w n : ℕ) (text : List ℕ) : Type 0 where
@@ -60,7 +57,7 @@ listed_line w buffer after n small long e f = by (decoded w) refl e f
     front xs ys m h = ap (λ k. take k (xs ++ ys)) h ∙ take-append_seam xs ys
 
     by : (o : Option Instruction) → decoded w ≡ o → Ok n ≡ listed_to o buffer → after ≡ buffer_for o buffer → Listed w n (take n after)
-    by None is e f = never cc
+    by None is e f = cc
     by (Some i) is e f =
         let t = fits w i buffer small is long in
         let g : ◌≡◌ {A = Result ℕ L.Refusal} (Ok n) (Ok (length (line_of i))) = e ∙ ap (λ b. cond b (Ok (length (line_of i))) (Err DoesNotFit)) t in
@@ -81,7 +78,7 @@ invalid w image lines none = record {
   answer = sym (ap (answer_to (length lines) (length image)) none);
   image = sym (ap (λ o. over (image_of (length lines) (length image) o) image) none);
   lines = sym (ap (λ o. over (records_of (length lines) (length image) o) lines) none);
-  back = λ valid k h. let z : false ≡ true = sym (ap is_some none) ∙ valid in never cc;
+  back = λ valid k h. let z : false ≡ true = sym (ap is_some none) ∙ valid in cc;
 }
 
 pub passed : (w n : ℕ) (text image image' : List ℕ) (lines lines' : List LineRecord) (r : Result Assembled R.Refused) → w < 65536 → Listed w n text
@@ -110,5 +107,5 @@ passed w n text image image' lines lines' r small listed x y z = record {
 
 -- a refusal of the assembler, passed on
 pub passed_err : (r : Result Assembled NotBack) (f : R.Refused) → (IsErr r) × (IsErrAnd r (λ e. e ≡ Refused f)) → r ≡ Err (Refused f)
-passed_err (Ok a) f h = never cc
+passed_err (Ok a) f h = cc
 passed_err (Err e) f h = ap Err h.1

@@ -12,16 +12,13 @@ use Rattle.syntax.specs.Statements.{is_plain}
 abbrev pub is_free : Separator → List ℕ → Bool
 is_free s xs = list_all (λ c. not (parts s c)) xs
 
-never : {X : Type 0} → false ≡ true → X
-never e = absurd (let z : ◌≡◌ {A = ℕ} 0 1 = cc in omega arith)
-
 -- both of two tests
 pub both : (a b : Bool) → (a && b) ≡ true → (a ≡ true) × (b ≡ true)
 both true b e = (refl, e)
-both false b e = never e
+both false b e = cc
 
 off : (b : Bool) → not b ≡ true → b ≡ false
-off true e = never e
+off true e = cc
 off false e = refl
 
 module _ (s : Separator) (c : ℕ) (ys : List ℕ) (ends : parts s c ≡ true) where

@@ -15,9 +15,9 @@ use Rattle.word.specs.declared.table.Extension.{Extension}
 use Rattle.word.specs.declared.table.Extension.TheVariants.{ZeroExtended, SignExtended}
 use Rattle.word.specs.Registers.{register as numbered}
 use Rattle.word.specs.Table.{row}
-use Rattle.word.specs.Words.{encoded, keeps_zero, with_registers, with_immediate}
+use Rattle.word.specs.Words.{fields, encoded, keeps_zero, with_registers, with_immediate}
 use Rattle.word.specs.Laws.{HasByte}
-use Rattle.word.proofs.Lookups.{shaped}
+use Rattle.word.proofs.Lookups.{shape_of, shaped}
 use Rattle.lister.specs.Lines.{register_text, immediate_text, three_registers, register_and_number, operands, line_with, line_of_fields, line_of}
 use Rattle.syntax.specs.declared.mnemonics.Mnemonic.TheVariants.{OfWord}
 use Rattle.syntax.specs.Operands.{register, numeral, two, three}
@@ -35,41 +35,40 @@ pub record Line (i : Instruction) : Type 0 where
   pub counts : word_count says_row ≡ 1
   pub spells : (v : ℕ) → words v says_row ≡ encoded i ∷ []
 
--- A mnemonic with three registers.
-registers_say : (x : Operation) (a b c : Register) (s : Option Shape) → (row x).shape ≡ s
-    → operands s (three_registers a b c) ≡ 32 ∷ three_registers a b c → fills_fields s x a b c ≡ Some (registers x a b c)
-    → keeps_zero s a b c ≡ true → Says (line_of_fields (Registers x a b c)) (registers x a b c)
-registers_say x a b c s is opens fills fits =
-    subst (λ (t : List ℕ). Says (line_with (row x).name t) (registers x a b c))
-    (sym (ap (λ o. operands o (three_registers a b c)) is ∙ opens))
-    (line_says x (three_registers a b c) (three (register a) (register b) (register c)) (registers x a b c)
-    (three_read (register_text a) (register_text b) (register_text c) (register a) (register b) (register c) (register-back a) (register-back b) (register-back c) refl refl refl)
-    (ap (λ o. fills_fields o x a b c) is ∙ fills) refl (ap (λ o. keeps_zero o a b c) is ∙ fits))
-
-of_registers_lem : (i : Instruction) (x : Operation) (a b c : Register) → Says (line_of i) (registers x a b c)
-    → with_registers x a b c ≡ Some i → Line i
-of_registers_lem i x a b c says is = record {
+-- An instruction whose fields are three registers.
+registers_line : (i : Instruction) (x : Operation) (a b c : Register) → fields i ≡ Registers x a b c
+    → operands (shape_of x) (three_registers a b c) ≡ 32 ∷ three_registers a b c → fills_fields (shape_of x) x a b c ≡ Some (registers x a b c)
+    → keeps_zero (shape_of x) a b c ≡ true → with_registers x a b c ≡ Some i → Line i
+registers_line i x a b c filled opens fills fits back = record {
   says_row = registers x a b c;
-  says = says;
+  says = subst (λ (t : List ℕ). Says t (registers x a b c)) (sym (ap line_of_fields filled ∙ ap (line_with (row x).name) text)) read;
   uses = refl;
   counts = refl;
-  spells = λ v. ap (λ o. map encoded (list_of o)) is;
+  spells = λ v. ap (λ o. map encoded (list_of o)) back;
 }
+  where
+    text : operands (row x).shape (three_registers a b c) ≡ 32 ∷ three_registers a b c
+    text = ap (λ o. operands o (three_registers a b c)) (shaped x) ∙ opens
 
--- A mnemonic with a register and an immediate.
+    read : Says (line_with (row x).name (32 ∷ three_registers a b c)) (registers x a b c)
+    read = line_says x (three_registers a b c) (three (register a) (register b) (register c)) (registers x a b c)
+        (three_read (register_text a) (register_text b) (register_text c) (register a) (register b) (register c) (register-back a) (register-back b) (register-back c) refl refl refl)
+        (ap (λ o. fills_fields o x a b c) (shaped x) ∙ fills) refl (ap (λ o. keeps_zero o a b c) (shaped x) ∙ fits)
+
+-- An instruction whose fields are a register and a byte, with its extension.
 record Takes (x : Operation) : Type 0 where
   extension : Extension
   is : (row x).immediate ≡ Some extension
 
-of_immediate_lem : (i : Instruction) (x : Operation) (a : Register) (n : ℕ) → Takes x → n < 256
-    → line_of i ≡ line_of_fields (Immediate x a n) → with_immediate x a n ≡ Some i
+immediate_line : (i : Instruction) (x : Operation) (a : Register) (n : ℕ) → Takes x → n < 256
+    → fields i ≡ Immediate x a n → with_immediate x a n ≡ Some i
     → of_number (OfWord x) a (value (row x).immediate n) ≡ Some (immediate x a (value (row x).immediate n)) → Line i
-of_immediate_lem i x a n takes small line is row_is = record {
+immediate_line i x a n takes small filled back rows = record {
   says_row = immediate x a (value (row x).immediate n);
-  says = subst (λ (t : List ℕ). Says t (immediate x a (value (row x).immediate n))) (sym line) says;
+  says = subst (λ (t : List ℕ). Says t (immediate x a (value (row x).immediate n))) (sym (ap line_of_fields filled)) read;
   uses = refl;
   counts = refl;
-  spells = λ v. ap (λ m. map encoded (list_of (with_immediate x a m))) byte ∙ ap (λ o. map encoded (list_of o)) is;
+  spells = λ v. ap (λ m. map encoded (list_of (with_immediate x a m))) byte ∙ ap (λ o. map encoded (list_of o)) back;
 }
   where
     e : Extension
@@ -81,11 +80,11 @@ of_immediate_lem i x a n takes small line is row_is = record {
     byte : byte_of (value (row x).immediate n) ≡ n
     byte = ap (λ o. byte_of (value o n)) takes.is ∙ reads.byte
 
-    says : Says (line_of_fields (Immediate x a n)) (immediate x a (value (row x).immediate n))
-    says = subst (λ (o : Option Extension). Says (line_with (row x).name (32 ∷ register_and_number o a n)) (immediate x a (value o n))) (sym takes.is)
+    read : Says (line_of_fields (Immediate x a n)) (immediate x a (value (row x).immediate n))
+    read = subst (λ (o : Option Extension). Says (line_with (row x).name (32 ∷ register_and_number o a n)) (immediate x a (value o n))) (sym takes.is)
         (line_says x (register_and_number (Some e) a n) (two (register a) (numeral (value (Some e) n))) (immediate x a (value (Some e) n))
         (two_read (register_text a) (immediate_text (Some e) n) (register a) (numeral (value (Some e) n)) (register-back a) reads.reads (omega arith))
-        (subst (λ (o : Option Extension). of_number (OfWord x) a (value o n) ≡ Some (immediate x a (value o n))) takes.is row_is)
+        (subst (λ (o : Option Extension). of_number (OfWord x) a (value o n) ≡ Some (immediate x a (value o n))) takes.is rows)
         (ap (λ o. fits_byte o (value (Some e) n)) takes.is ∙ reads.range) refl)
 
 computes_take : (c : Computation) → Takes (Computes c)
@@ -102,16 +101,19 @@ branches_take Zero = record { extension = SignExtended; is = refl }
 branches_take NotZero = record { extension = SignExtended; is = refl }
 
 pub lined : (i : Instruction) → HasByte i → Line i
-lined (Compute c a b d) h = of_registers_lem _ (Computes c) a b d (registers_say (Computes c) a b d _ (shaped (Computes c)) refl refl refl) refl
-lined (ComputeImmediate c r n) h = of_immediate_lem _ (Computes c) r n (computes_take c) h refl refl refl
-lined (Shift s a b) h = of_registers_lem _ (Shifts s) a b (numbered 0) (registers_say (Shifts s) a b (numbered 0) _ (shaped (Shifts s)) refl refl refl) refl
-lined (Load w a b) h = of_registers_lem _ (Loads w) a (numbered 0) b (registers_say (Loads w) a (numbered 0) b _ (shaped (Loads w)) refl refl refl) refl
-lined (Store w a b) h = of_registers_lem _ (Stores w) (numbered 0) a b (registers_say (Stores w) (numbered 0) a b _ (shaped (Stores w)) refl refl refl) refl
-lined (Branch c a b) h = of_registers_lem _ (Branches c) (numbered 0) a b (registers_say (Branches c) (numbered 0) a b _ (shaped (Branches c)) refl refl refl) refl
-lined (BranchImmediate c r n) h = of_immediate_lem _ (Branches c) r n (branches_take c) h refl refl refl
-lined (LoadRegister r n) h = of_immediate_lem _ LoadsRegister r n (record { extension = SignExtended; is = refl }) h refl refl refl
-lined (LoadConstant r n) h = of_immediate_lem _ LoadsConstant r n (record { extension = ZeroExtended; is = refl }) h refl refl refl
-lined Halt h = of_registers_lem Halt Halts (numbered 0) (numbered 0) (numbered 0) halt refl
-  where
-    halt : Says (line_of Halt) (registers Halts (numbered 0) (numbered 0) (numbered 0))
-    halt = record { inner = 9 ∷ (row Halts).name; whole = refl; plain = refl; short = omega arith; says = refl }
+lined (Compute c a b d) h = registers_line _ (Computes c) a b d refl refl refl refl refl
+lined (ComputeImmediate c r n) h = immediate_line _ (Computes c) r n (computes_take c) h refl refl refl
+lined (Shift s a b) h = registers_line _ (Shifts s) a b (numbered 0) refl refl refl refl refl
+lined (Load w a b) h = registers_line _ (Loads w) a (numbered 0) b refl refl refl refl refl
+lined (Store w a b) h = registers_line _ (Stores w) (numbered 0) a b refl refl refl refl refl
+lined (Branch c a b) h = registers_line _ (Branches c) (numbered 0) a b refl refl refl refl refl
+lined (BranchImmediate c r n) h = immediate_line _ (Branches c) r n (branches_take c) h refl refl refl
+lined (LoadRegister r n) h = immediate_line _ LoadsRegister r n (record { extension = SignExtended; is = refl }) h refl refl refl
+lined (LoadConstant r n) h = immediate_line _ LoadsConstant r n (record { extension = ZeroExtended; is = refl }) h refl refl refl
+lined Halt h = record {
+  says_row = registers Halts (numbered 0) (numbered 0) (numbered 0);
+  says = record { inner = 9 ∷ (row Halts).name; whole = refl; plain = refl; short = omega arith; says = refl };
+  uses = refl;
+  counts = refl;
+  spells = λ v. refl;
+}

@@ -15,9 +15,6 @@ use Rattle.syntax.specs.Statements.{is_plain}
 use Rattle.assembler.specs.Expansions.{byte_of}
 use Rattle.roundtrip.proofs.Cuts.{is_free, both}
 
-never : {X : Type 0} → false ≡ true → X
-never e = absurd (let z : ◌≡◌ {A = ℕ} 0 1 = cc in omega arith)
-
 -- A text that reads as this operand, in a line with commas.
 pub record Reads (t : List ℕ) (o : Operand) : Type 0 where
   pub plain : list_all is_plain t ≡ true
@@ -53,9 +50,9 @@ register_reads n =
     is_register n (operand_in (register_bytes n)) && (list_all is_plain (register_bytes n) && is_free Comma (register_bytes n))
 
 the_register : (r : Register) (o : Option Operand) → is_register r.number o ≡ true → o ≡ Some (register r)
-the_register r None e = never e
-the_register r (Some (numeral z)) e = never e
-the_register r (Some (name t)) e = never e
+the_register r None e = cc
+the_register r (Some (numeral z)) e = cc
+the_register r (Some (name t)) e = cc
 the_register r (Some (register s)) e = ap (λ x. Some (register x)) (same-register s r (grind (arith, nat_tests)))
 
 pub register-back : (r : Register) → Reads (register_text r) (register r)
@@ -79,8 +76,8 @@ same (negsuc m) (negsuc n) = eqb m n
 
 same_is : (y z : ℤ) → same y z ≡ true → y ≡ z
 same_is (pos m) (pos n) e = let k : m ≡ n = grind (arith, nat_tests) in ap pos k
-same_is (pos m) (negsuc n) e = never e
-same_is (negsuc m) (pos n) e = never e
+same_is (pos m) (negsuc n) e = cc
+same_is (negsuc m) (pos n) e = cc
 same_is (negsuc m) (negsuc n) e = let k : m ≡ n = grind (arith, nat_tests) in ap negsuc k
 
 abbrev is_numeral : ℤ → Option Operand → Bool
@@ -90,9 +87,9 @@ is_numeral z (Some (name t)) = false
 is_numeral z None = false
 
 the_numeral : (z : ℤ) (o : Option Operand) → is_numeral z o ≡ true → o ≡ Some (numeral z)
-the_numeral z None e = never e
-the_numeral z (Some (register r)) e = never e
-the_numeral z (Some (name t)) e = never e
+the_numeral z None e = cc
+the_numeral z (Some (register r)) e = cc
+the_numeral z (Some (name t)) e = cc
 the_numeral z (Some (numeral y)) e = ap (λ x. Some (numeral x)) (same_is y z e)
 
 -- An immediate is read as its number, which is in the range of its extension and has its byte.
