@@ -1,11 +1,13 @@
 // Every one of the 65,536 words: its line, and what it does to two sets of registers. Words that are not valid are
-// printed as runs.
+// printed as runs. The word that is printed with a line is the one that the line assembles to.
 #![tactic(auto)]
 
 mod effects;
 
+use assembler::{LineKind, LineRecord};
 use effects::effect_of;
 use lister::list;
+use roundtrip::assemble_back;
 use std::alloc::AllocError;
 use std::io::Write;
 use std::str::from_utf8;
@@ -19,6 +21,21 @@ const REGISTERS: [[u16; 8]; 2] = [
         0xFF80, 0x8001, 0x0002, 0x7FFE, 0x0000, 0xC0DE, 0x5555, 0xAAAA,
     ],
 ];
+
+const NO_LINE: LineRecord = LineRecord {
+    line: 0,
+    address: 0,
+    words: 0,
+    kind: LineKind::Data,
+};
+
+// The word that a word's line assembles to.
+fn assembled(word: u16) -> Option<u16> {
+    let mut image = [0; 2];
+    let mut lines = [NO_LINE];
+    assemble_back(word, &mut image, &mut lines).ok()?;
+    Some(u16::from_be_bytes(image))
+}
 
 // The run of words that are not valid, if the words before were such.
 fn end_run(out: &mut String, first: Option<u16>, last: u16) -> Result<(), AllocError> {
@@ -48,7 +65,9 @@ fn push_all(out: &mut String) -> anyhow::Result<()> {
         match list(word, &mut buffer) {
             Ok(n) => {
                 end_run(out, run.take(), word.wrapping_sub(1))?;
-                push_listed(out, word, from_utf8(&buffer[..n])?)?;
+                if let Some(word) = assembled(word) {
+                    push_listed(out, word, from_utf8(&buffer[..n])?)?;
+                }
             }
             Err(_) => {
                 run.get_or_insert(word);

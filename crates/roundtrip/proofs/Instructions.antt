@@ -10,7 +10,6 @@ use Rattle.word.specs.declared.instructions.Operation.TheVariants.{Computes, Shi
 use Rattle.word.specs.declared.instructions.Instruction.{Instruction}
 use Rattle.word.specs.declared.instructions.Instruction.TheVariants.{Compute, ComputeImmediate, Shift, Load, Store, Branch, BranchImmediate, LoadRegister, LoadConstant, Halt}
 use Rattle.word.specs.declared.instructions.Fields.TheVariants.{Registers, Immediate}
-use Rattle.word.specs.declared.table.Shape.{Shape}
 use Rattle.word.specs.declared.table.Extension.{Extension}
 use Rattle.word.specs.declared.table.Extension.TheVariants.{ZeroExtended, SignExtended}
 use Rattle.word.specs.Registers.{register as numbered}
