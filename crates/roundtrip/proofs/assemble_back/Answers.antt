@@ -1,4 +1,4 @@
-use Rattle.std.proofs.Common.{Ok, Err, sym, refl, subst, arith}
+use Rattle.std.proofs.Common.{◌≡◌, length, take, Ok, Err, sym, refl, subst, arith, length-take}
 use Rattle.roundtrip.proofs.Backs.{Kept, not_listed, listed_line, invalid, passed, passed_err}
 use Rattle.roundtrip.proofs.assemble_back.Goals as goal
 
@@ -6,6 +6,12 @@ pub returns-in_default : goal.returns-in_default
 returns-in_default c =
     let p = invalid c.args.word c.args.image.now c.args.lines.now (not_listed c.args.word _ c.in_default.field-0 (omega arith) refl c.in_default.ensures.answer) in
     record { answer = p.answer; image = p.image; lines = p.lines; back = p.back }
+
+pub slice_bounds-buffer-end : goal.slice_bounds-buffer-end
+slice_bounds-buffer-end c =
+    let listed = listed_line c.args.word _ c.list.new.buffer c.in-Ok.n (omega arith) refl c.in-Ok.ensures.answer c.in-Ok.ensures.buffer in
+    let long : c.in-Ok.n ≡ length (take c.in-Ok.n c.list.new.buffer) = listed.long in
+    omega (arith, length-take c.in-Ok.n c.list.new.buffer)
 
 pub slice_bounds-assemble-end : goal.slice_bounds-assemble-end
 slice_bounds-assemble-end c = (listed_line c.args.word _ c.list.new.buffer c.in-Ok.n (omega arith) refl c.in-Ok.ensures.answer c.in-Ok.ensures.buffer).long
