@@ -22,11 +22,12 @@ number_of (Refused r) = refusal_number r.refusal
 abbrev pub assembled_line : ℕ → ℕ → Instruction → Answer
 assembled_line lines most i = assembled (room 0 lines) most (line_of i)
 
--- What is answered: a word that is not valid has no line; any other answers what its line does.
+-- What the assembler answers, passed on.
 abbrev pub passed_on : Result Assembled R.Refused → Result Assembled NotBack
 passed_on (Ok a) = Ok a
 passed_on (Err r) = Err (Refused r)
 
+-- What is answered: a word that is not valid has no line; for any other it is what its line comes to.
 abbrev pub answer_to : ℕ → ℕ → Option Instruction → Result Assembled NotBack
 answer_to lines most None = Err NotValid
 answer_to lines most (Some i) = passed_on (summary (assembled_line lines most i))
@@ -34,7 +35,7 @@ answer_to lines most (Some i) = passed_on (summary (assembled_line lines most i)
 abbrev pub answer : ℕ → List ℕ → List LineRecord → Result Assembled NotBack
 answer word image lines = answer_to (length lines) (length image) (decoded word)
 
--- What is written into the image buffer, and into the table of lines: nothing for a word that is not valid.
+-- The image that is written into the front of its buffer: none for a word that is not valid.
 abbrev pub image_of : ℕ → ℕ → Option Instruction → List ℕ
 image_of lines most None = []
 image_of lines most (Some i) = image_in (assembled_line lines most i)
@@ -42,6 +43,7 @@ image_of lines most (Some i) = image_in (assembled_line lines most i)
 abbrev pub image_after : ℕ → List ℕ → List LineRecord → List ℕ
 image_after word image lines = over (image_of (length lines) (length image) (decoded word)) image
 
+-- The records that are written into the front of the table of lines: none for a word that is not valid.
 abbrev pub records_of : ℕ → ℕ → Option Instruction → List LineRecord
 records_of lines most None = []
 records_of lines most (Some i) = lines_in (assembled_line lines most i)
