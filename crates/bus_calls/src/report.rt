@@ -1,6 +1,6 @@
 // What is written of a bus: each answer, and a digest of all that can be learned of it at the end.
 use crate::random::Random;
-use crate::script::{drain, drawn, flood, mixed};
+use crate::script::{Drawn, drain, flood, mixed};
 use any_bus::{BusCall, BusReply, answer};
 use bus::{Bus, BusFault};
 use std::fmt::Write;
@@ -22,7 +22,7 @@ fn write_answer(out: &mut String, said: Result<BusReply, BusFault>) -> anyhow::R
 }
 
 // Sends `lines` lines of calls, each made by `call`.
-fn send_phase<B: Bus, F: Fn(u16, u16, u16) -> BusCall>(
+fn send_phase<B: Bus, F: Fn(Drawn) -> BusCall>(
     out: &mut String,
     bus: &mut B,
     random: &mut Random,
@@ -36,23 +36,30 @@ fn send_phase<B: Bus, F: Fn(u16, u16, u16) -> BusCall>(
             if 0 < i {
                 out.push_str(" ")?;
             }
-            let (kind, a, v) = drawn(random);
-            write_answer(out, answer(bus, call(kind, a, v)))?;
+            write_answer(out, answer(bus, call(Drawn::next(random))))?;
         }
         out.push_str("\n")?;
     }
     Ok(())
 }
 
-// All phases, under a heading.
-pub fn send_script<B: Bus>(
-    out: &mut String,
-    name: &str,
-    bus: &mut B,
+// A script: its heading, and the seed of its calls.
+#[derive(Clone, Copy)]
+pub struct Script {
+    name: &'static str,
     seed: u32,
-) -> anyhow::Result<()> {
-    writeln!(out, "stack {name}")?;
-    let mut random = Random::new(seed);
+}
+
+impl Script {
+    pub fn new(name: &'static str, seed: u32) -> Script {
+        Script { name, seed }
+    }
+}
+
+// All phases, under the heading.
+pub fn send_script<B: Bus>(out: &mut String, script: Script, bus: &mut B) -> anyhow::Result<()> {
+    writeln!(out, "stack {}", script.name)?;
+    let mut random = Random::new(script.seed);
     send_phase(out, bus, &mut random, 60, mixed)?;
     send_phase(out, bus, &mut random, 80, flood)?;
     send_phase(out, bus, &mut random, 60, drain)?;

@@ -2,6 +2,14 @@
 use crate::random::Random;
 use any_bus::BusCall;
 
+// What a call is made of: a kind, an address of some class and a value.
+#[derive(Clone, Copy)]
+pub struct Drawn {
+    kind: u16,
+    a: u16,
+    v: u16,
+}
+
 // Addresses at and around the edges of memory, cards and ports.
 fn address(class: u16, n: u16) -> u16 {
     match class % 8 {
@@ -29,7 +37,8 @@ fn value(n: u16) -> u16 {
 
 // Stays: kinds by number, here and below and in `address`: they are drawn, and a call's share is how many numbers it has.
 // Fills the queues faster than it empties them.
-pub fn flood(kind: u16, a: u16, v: u16) -> BusCall {
+pub fn flood(drawn: Drawn) -> BusCall {
+    let Drawn { kind, a, v } = drawn;
     match kind % 8 {
         0 | 1 | 2 => BusCall::StoreWord(0xF002, v),
         3 => BusCall::StoreWord(0xF000, v),
@@ -40,7 +49,8 @@ pub fn flood(kind: u16, a: u16, v: u16) -> BusCall {
 }
 
 // Empties the queues.
-pub fn drain(kind: u16, a: u16, v: u16) -> BusCall {
+pub fn drain(drawn: Drawn) -> BusCall {
+    let Drawn { kind, a, v } = drawn;
     match kind % 8 {
         0 | 1 | 2 | 3 => BusCall::Take,
         4 | 5 => BusCall::LoadWord(0xF004),
@@ -50,7 +60,8 @@ pub fn drain(kind: u16, a: u16, v: u16) -> BusCall {
 }
 
 // All calls alike.
-pub fn mixed(kind: u16, a: u16, v: u16) -> BusCall {
+pub fn mixed(drawn: Drawn) -> BusCall {
+    let Drawn { kind, a, v } = drawn;
     match kind % 8 {
         0 => BusCall::Peek(a),
         1 => BusCall::LoadByte(a),
@@ -62,11 +73,12 @@ pub fn mixed(kind: u16, a: u16, v: u16) -> BusCall {
     }
 }
 
-// What the next call is made of: a kind, an address of some class and a value.
-pub fn drawn(random: &mut Random) -> (u16, u16, u16) {
-    let kind = random.next();
-    let class = random.next();
-    let a = address(class, random.next());
-    let v = value(random.next());
-    (kind, a, v)
+impl Drawn {
+    pub fn next(random: &mut Random) -> Drawn {
+        let kind = random.next();
+        let class = random.next();
+        let a = address(class, random.next());
+        let v = value(random.next());
+        Drawn { kind, a, v }
+    }
 }

@@ -1,5 +1,5 @@
 // The stacks of buses that the calls go to.
-use crate::report::{send_script, write_bytes, write_digest};
+use crate::report::{Script, send_script, write_bytes, write_digest};
 use bus::{Bus, Flat};
 use card::ProgramCard;
 use console::Console;
@@ -32,8 +32,8 @@ fn filled(out: &mut String, program: &[u8]) -> anyhow::Result<ProgramCard> {
 }
 
 // Sends the script to a bus, then writes its digest, and gives it back.
-fn sent<B: Bus + Drop>(out: &mut String, name: &str, mut bus: B, seed: u32) -> anyhow::Result<B> {
-    send_script(out, name, &mut bus, seed)?;
+fn sent<B: Bus + Drop>(out: &mut String, script: Script, mut bus: B) -> anyhow::Result<B> {
+    send_script(out, script, &mut bus)?;
     write_digest(out, &mut bus)?;
     Ok(bus)
 }
@@ -51,40 +51,34 @@ fn lend<F: FnOnce(&mut String, &mut [u8]) -> anyhow::Result<()>>(
     write_bytes(out, bytes)
 }
 
-fn flat(out: &mut String, name: &str, bytes: &mut [u8], seed: u32) -> anyhow::Result<()> {
+fn flat(out: &mut String, script: Script, bytes: &mut [u8]) -> anyhow::Result<()> {
     lend(out, bytes, |out, bytes| {
-        sent(out, name, Flat::new(bytes), seed)?;
+        sent(out, script, Flat::new(bytes))?;
         Ok(())
     })
 }
 
-fn card(
-    out: &mut String,
-    name: &str,
-    program: &[u8],
-    bytes: &mut [u8],
-    seed: u32,
-) -> anyhow::Result<()> {
+fn card(out: &mut String, script: Script, program: &[u8], bytes: &mut [u8]) -> anyhow::Result<()> {
     lend(out, bytes, |out, bytes| {
         let bus = filled(out, program)?.over(Flat::new(bytes));
-        let mut below = sent(out, name, bus, seed)?.into_below();
+        let mut below = sent(out, script, bus)?.into_below();
         write_digest(out, &mut below)
     })
 }
 
-fn console(out: &mut String, name: &str, bytes: &mut [u8], seed: u32) -> anyhow::Result<()> {
+fn console(out: &mut String, script: Script, bytes: &mut [u8]) -> anyhow::Result<()> {
     lend(out, bytes, |out, bytes| {
         let bus = Console::new(Flat::new(bytes));
-        let mut below = sent(out, name, bus, seed)?.into_below();
+        let mut below = sent(out, script, bus)?.into_below();
         write_digest(out, &mut below)
     })
 }
 
 fn flats(out: &mut String, bytes: &mut [u8; MOST_BYTES]) -> anyhow::Result<()> {
-    flat(out, "flat 0", &mut bytes[..0], 1)?;
-    flat(out, "flat 7", &mut bytes[..7], 2)?;
-    flat(out, "flat 65536", &mut bytes[..65536], 3)?;
-    flat(out, "flat 65539", bytes, 4)
+    flat(out, Script::new("flat 0", 1), &mut bytes[..0])?;
+    flat(out, Script::new("flat 7", 2), &mut bytes[..7])?;
+    flat(out, Script::new("flat 65536", 3), &mut bytes[..65536])?;
+    flat(out, Script::new("flat 65539", 4), bytes)
 }
 
 fn cards(
@@ -92,34 +86,46 @@ fn cards(
     program: &[u8; MOST_PROGRAM],
     bytes: &mut [u8; MOST_BYTES],
 ) -> anyhow::Result<()> {
-    card(out, "card 0, flat 64", &program[..0], &mut bytes[..64], 5)?;
-    card(out, "card 10, flat 64", &program[..10], &mut bytes[..64], 6)?;
-    card(out, "card 64, flat 11", &program[..64], &mut bytes[..11], 7)?;
     card(
         out,
-        "card 4096, flat 65536",
+        Script::new("card 0, flat 64", 5),
+        &program[..0],
+        &mut bytes[..64],
+    )?;
+    card(
+        out,
+        Script::new("card 10, flat 64", 6),
+        &program[..10],
+        &mut bytes[..64],
+    )?;
+    card(
+        out,
+        Script::new("card 64, flat 11", 7),
+        &program[..64],
+        &mut bytes[..11],
+    )?;
+    card(
+        out,
+        Script::new("card 4096, flat 65536", 8),
         &program[..4096],
         &mut bytes[..65536],
-        8,
     )?;
     card(
         out,
-        "card 11 refused, flat 20",
+        Script::new("card 11 refused, flat 20", 9),
         &program[..11],
         &mut bytes[..20],
-        9,
     )?;
     card(
         out,
-        "card 4098 refused, flat 20",
+        Script::new("card 4098 refused, flat 20", 10),
         program,
         &mut bytes[..20],
-        10,
     )?;
     lend(out, &mut bytes[..12], |out, bytes| {
         let lower = filled(out, &program[..8])?.over(Flat::new(bytes));
         let bus = filled(out, &program[..4])?.over(lower);
-        sent(out, "card 4, card 8, flat 12", bus, 11)?;
+        sent(out, Script::new("card 4, card 8, flat 12", 11), bus)?;
         Ok(())
     })
 }
@@ -129,24 +135,32 @@ fn consoles(
     program: &[u8; MOST_PROGRAM],
     bytes: &mut [u8; MOST_BYTES],
 ) -> anyhow::Result<()> {
-    console(out, "console, flat 0", &mut bytes[..0], 12)?;
-    console(out, "console, flat 65536", &mut bytes[..65536], 13)?;
+    console(out, Script::new("console, flat 0", 12), &mut bytes[..0])?;
+    console(
+        out,
+        Script::new("console, flat 65536", 13),
+        &mut bytes[..65536],
+    )?;
     lend(out, &mut bytes[..65535], |out, bytes| {
         let bus = Console::new(filled(out, &program[..4096])?.over(Flat::new(bytes)));
-        sent(out, "console, card 4096, flat 65535", bus, 14)?;
+        sent(out, Script::new("console, card 4096, flat 65535", 14), bus)?;
         Ok(())
     })?;
     lend(out, &mut bytes[..7], |out, bytes| {
         let bus = filled(out, &program[..16])?.over(Console::new(Flat::new(bytes)));
-        sent(out, "card 16, console, flat 7", bus, 15)?;
+        sent(out, Script::new("card 16, console, flat 7", 15), bus)?;
         Ok(())
     })?;
     // The lower console has bytes of its own before the upper one hides it.
     lend(out, &mut bytes[..61445], |out, bytes| {
         let mut lower = Console::new(Flat::new(bytes));
-        send_script(out, "lower console", &mut lower, 16)?;
+        send_script(out, Script::new("lower console", 16), &mut lower)?;
         let bus = Console::new(lower);
-        let mut below = sent(out, "console, console, flat 61445", bus, 17)?.into_below();
+        let mut below = sent(
+            out,
+            Script::new("console, console, flat 61445", 17),
+            bus,
+        )?.into_below();
         write_digest(out, &mut below)
     })
 }
