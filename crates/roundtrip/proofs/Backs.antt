@@ -1,5 +1,5 @@
 -- A listed word's line, assembled.
-use Rattle.std.proofs.Common.{◌≡◌, ℕ, ◌<◌, ◌≤◌, true, false, cond, leb, List, [], ◌∷◌, ◌++◌, length, take, drop, is_ok, IsErr, IsErrAnd, Some, None, Ok, Err, Option, Result, refl, ap, ◌∙◌, sym, arith, is_some}
+use Rattle.std.proofs.Common.{◌≡◌, ℕ, ◌<◌, ◌≤◌, true, false, cond, leb, List, [], ◌∷◌, ◌++◌, length, take, drop, IsErr, IsErrAnd, Some, None, Ok, Err, Option, Result, refl, ap, ◌∙◌, sym, arith, is_some}
 use Rattle.std.proofs.Math.Seq.{take-append_seam}
 use Rattle.std.proofs.lemmas.Bool.Decides.{nat_tests}
 use Rattle.word.specs.declared.instructions.Instruction.{Instruction}
@@ -71,7 +71,7 @@ pub record Kept (w : ℕ) (before after : List ℕ) (free filled : List LineReco
   pub answer : r ≡ answer_for w before free
   pub image : after ≡ image_after w before free
   pub lines : filled ≡ lines_after w before free
-  pub back : ComesBack w before free r after
+  pub back : ComesBack w before free r after filled
 
 pub invalid : (w : ℕ) (image : List ℕ) (lines : List LineRecord) → decoded w ≡ None → Kept w image image lines lines (Err NotValid)
 invalid w image lines none = record {
@@ -96,13 +96,14 @@ passed w n text image image' lines lines' r small listed x y z = record {
     same : assembled (room 0 (length lines)) (length image) text ≡ assembled_line (length lines) (length image) listed.instruction
     same = ap (assembled (room 0 (length lines)) (length image)) listed.line
 
-    back : ComesBack w image lines (passed_on r) image'
+    back : ComesBack w image lines (passed_on r) image' lines'
     back valid k h =
         let codec = encodes_back w listed.instruction small listed.is in
         let line = lined listed.instruction codec.1 in
         let comes = same ∙ line_comes listed.instruction line (length lines) (length image) h k ∙ ap (λ n. accepted (bytes_of n) [] (line_record start 1 OfInstruction ∷ [])) codec.0 in (
-          ap (λ a. is_ok (passed_on a)) (x ∙ ap summary comes),
+          ap passed_on (x ∙ ap summary comes),
           y ∙ ap (λ a. over (image_in a) image) comes,
+          z ∙ ap (λ a. over (lines_in a) lines) comes,
         )
 
 -- a refusal of the assembler, passed on

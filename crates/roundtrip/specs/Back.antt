@@ -1,11 +1,12 @@
 -- A word listed, and its line assembled.
-use Rattle.std.specs.Prelude.{◌≡◌, ℕ, ◌≤◌, true, List, [], length, Some, None, Ok, Err, Option, Result, IsOk}
+use Rattle.std.specs.Prelude.{◌≡◌, ℕ, ◌≤◌, true, List, [], ◌∷◌, length, Some, None, Ok, Err, Option, Result}
 use Rattle.word.specs.declared.instructions.Instruction.{Instruction}
 use Rattle.word.specs.Words.{decoded, is_valid}
 use Rattle.lister.specs.Lines.{line_of}
 use Rattle.syntax.specs.Data.{bytes_of}
 use Rattle.assembler.specs.declared.assembling.Assembled.{Assembled}
 use Rattle.assembler.specs.declared.assembling.Refused as R
+use Rattle.assembler.specs.declared.records.LineKind.TheVariants as K
 use Rattle.assembler.specs.declared.records.LineRecord.{LineRecord}
 use Rattle.assembler.specs.Placing.{room, number_of as refusal_number}
 use Rattle.assembler.specs.Answers.{Answer, assembled, summary, image_in, lines_in, over}
@@ -51,8 +52,13 @@ records_of lines most (Some i) = lines_in (assembled_line lines most i)
 abbrev pub lines_after : ℕ → List ℕ → List LineRecord → List LineRecord
 lines_after word image lines = over (records_of (length lines) (length image) (decoded word)) lines
 
--- The law: a valid word, given room for its two bytes and for the record of its line, is accepted, and the image is that
--- word, high byte first, with the buffer behind it as it was.
-abbrev pub ComesBack : ℕ → List ℕ → List LineRecord → Result Assembled NotBack → List ℕ → Type 0
-ComesBack word image lines r after =
-    is_valid word ≡ true → 2 ≤ length image → 1 ≤ length lines → IsOk r × (after ≡ over (bytes_of word) image)
+-- The record of a listed line: the first of its text, one word of an instruction at address 0.
+abbrev pub only_record : LineRecord
+only_record = record { line = 1; address = 0; words = 1; kind = K.Instruction }
+
+-- The law: a valid word, given room for its two bytes and for the record of its line, is accepted; the image is that word,
+-- high byte first, and the record that line's, with buffer and table behind them as they were.
+abbrev pub ComesBack : ℕ → List ℕ → List LineRecord → Result Assembled NotBack → List ℕ → List LineRecord → Type 0
+ComesBack word image lines r after records =
+    is_valid word ≡ true → 2 ≤ length image → 1 ≤ length lines
+    → (r ≡ Ok (record { length = 2; labels = 0; lines = 1 })) × (after ≡ over (bytes_of word) image) × (records ≡ over (only_record ∷ []) lines)

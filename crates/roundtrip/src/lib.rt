@@ -48,7 +48,7 @@ pub fn assemble_back(
     ensures answer { result ≡ answer word image.old lines.old }
     ensures image { image.new ≡ image_after word image.old lines.old }
     ensures lines { lines.new ≡ lines_after word image.old lines.old }
-    ensures back { ComesBack word image.old lines.old result image.new }
+    ensures back { ComesBack word image.old lines.old result image.new lines.new }
 {
     let mut buffer = [0; 16];
     // A line has 15 bytes at most, so that no other refusal comes.

@@ -18,10 +18,11 @@ word_of (negsuc n) = 65535 - n
 abbrev pub bytes_of : ℕ → List ℕ
 bytes_of w = w / 256 ∷ w % 256 ∷ []
 
--- A string's bytes with a zero byte behind them, and one more where their count is odd.
+-- Bytes with a zero byte behind them where their count is odd.
 abbrev pub evened : List ℕ → List ℕ
 evened bs = cond (length bs % 2 == 0) bs (bs ++ (0 ∷ []))
 
+-- A string's bytes with a zero byte behind them, and one more where their count is then odd.
 abbrev pub text_bytes : List ℕ → List ℕ
 text_bytes t = evened (t ++ (0 ∷ []))
 

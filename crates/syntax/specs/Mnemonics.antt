@@ -42,18 +42,21 @@ entry_in p = record { pseudo = p.pseudo; text = p.text.now }
 abbrev pub is_text : List ℕ → Entry → Bool
 is_text t e = bytes_eq e.text t
 
+-- The first that a test takes.
 abbrev pub first : (Entry → Bool) → List Entry → Option Pseudo
 first p [] = None
 first p (e ∷ es) = cond (p e) (Some e.pseudo) (first p es)
 
+-- The short mnemonic with this text.
 abbrev pub pseudo_named : List ℕ → Option Pseudo
 pseudo_named t = first (is_text t) entries
 
--- The mnemonic with this text: a word's, else a short one.
+-- A word's mnemonic, else a short one.
 abbrev pub or_pseudo : Option Operation → Option Pseudo → Option Mnemonic
 or_pseudo (Some x) p = Some (OfWord x)
 or_pseudo None (Some p) = Some (OfPseudo p)
 or_pseudo None None = None
 
+-- The mnemonic with this text.
 abbrev pub mnemonic_in : List ℕ → Option Mnemonic
 mnemonic_in t = or_pseudo (named t) (pseudo_named t)

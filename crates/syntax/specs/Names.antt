@@ -29,10 +29,11 @@ begins c = from "a" "z" c || (from "A" "Z" c || is "_" c)
 abbrev pub goes_on : ℕ → Bool
 goes_on c = begins c || from "0" "9" c
 
--- It has at most 32 bytes, and is no register.
+-- It has at most 32 bytes.
 abbrev pub has_name_form : List ℕ → Bool
 has_name_form [] = false
 has_name_form (c ∷ cs) = begins c && (list_all goes_on cs && nat_le (length cs) 31)
 
+-- And it is no register.
 abbrev pub is_name : List ℕ → Bool
 is_name t = has_name_form t && not (is_some (register_in t))

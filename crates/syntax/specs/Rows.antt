@@ -152,16 +152,18 @@ fills_fields (Some FirstZero) x a b c = Some (registers x a b c)
 fills_fields (Some NoOperands) x a b c = None
 fills_fields None x a b c = None
 
+-- Three registers, for a mnemonic of a word that has fields to fill.
 abbrev pub of_three : Mnemonic → Register → Register → Register → Option Row
 of_three (OfWord x) a b c = fills_fields (row x).shape x a b c
 of_three (OfPseudo p) a b c = None
 
--- The row of a mnemonic with these operands.
+-- A register and any second operand.
 abbrev pub of_two : Mnemonic → Register → Operand → Option Row
 of_two m r (register s) = of_two_registers m r s
 of_two m r (numeral n) = of_number m r n
 of_two m r (name t) = of_name m r t
 
+-- Of three operands each has to be a register: the third, then the second.
 abbrev pub third_of : Mnemonic → Register → Register → Operand → Option Row
 third_of m a b (register c) = of_three m a b c
 third_of m a b (numeral n) = None
@@ -172,6 +174,7 @@ second_of m a (register b) c = third_of m a b c
 second_of m a (numeral n) c = None
 second_of m a (name t) c = None
 
+-- The row of a mnemonic with these operands.
 abbrev pub row_of : Mnemonic → Operands → Option Row
 row_of m none = of_none m
 row_of m (one (register r)) = of_one m r

@@ -22,10 +22,11 @@ use Rattle.syntax.specs.Mnemonics.{mnemonic_in}
 use Rattle.syntax.specs.Operands.{Operands, operands_by, said_all}
 use Rattle.syntax.specs.Rows.{Row, row_of, judged, said_row, number_of as instruction_number}
 
--- Has a line at most 120 bytes, all of them tabs or from space to tilde?
+-- Is a byte a tab, or one from space to tilde?
 abbrev pub is_plain : ℕ → Bool
 is_plain c = is "\t" c || from " " "~" c
 
+-- Has a line at most 120 bytes, all of them such?
 abbrev pub is_clean : List ℕ → Bool
 is_clean l = nat_le (length l) 120 && list_all is_plain l
 

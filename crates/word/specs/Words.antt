@@ -33,18 +33,20 @@ fields (LoadRegister r n) = Immediate LoadsRegister r n
 fields (LoadConstant r n) = Immediate LoadsConstant r n
 fields Halt = Registers Halts (register 0) (register 0) (register 0)
 
--- The word of an instruction.
+-- The word with these fields.
 abbrev pub packed : Fields → ℕ
 packed (Registers x rst rsa rsb) = register_word (row x).opcode rst rsa rsb (row x).op2
 packed (Immediate x rst n) = immediate_word (row x).opcode rst n
 
+-- The word of an instruction.
 abbrev pub encoded : Instruction → ℕ
 encoded i = packed (fields i)
 
--- The register fields that must be 0 are; never where a mnemonic has no words with register fields.
+-- Is this register 0?
 abbrev pub is_zero : Register → Bool
 is_zero r = r.number == 0
 
+-- The register fields that must be 0 are; never where a mnemonic has no words with register fields.
 abbrev pub keeps_zero : Option Shape → Register → Register → Register → Bool
 keeps_zero (Some ThreeRegisters) rst rsa rsb = true
 keeps_zero (Some LastZero) rst rsa rsb = is_zero rsb
