@@ -1,0 +1,25 @@
+// The board of the Viking: what each instruction does to its registers, its next address and its bus.
+#![tactic(auto)]
+
+ghost use Rattle.machine.specs.Agreement.{Agreement};
+ghost use Rattle.board.specs.Viking.{viking};
+ghost use Rattle.board.specs.VikingLaws.{viking_laws};
+
+use machine::{Lawful, board_follows_reading};
+
+// The Viking, as a machine that keeps its laws.
+#[derive(Drop)]
+pub struct Viking;
+
+impl Lawful for Viking {
+    ghost machine = { viking };
+
+    ghost keeps = { viking_laws };
+}
+
+// The agreement: a board follows the reading of every program whose lines keep what they owe.
+pub fn boards_follow()
+    ensures { Agreement viking }
+{
+    board_follows_reading::<Viking>();
+}
