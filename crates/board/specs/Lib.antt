@@ -4,3 +4,4 @@ pub mod Viking
 pub mod CoreFits
 pub mod BusFair
 pub mod VikingLaws
+pub mod Sums

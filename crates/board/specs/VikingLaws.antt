@@ -14,7 +14,7 @@ use Rattle.bus.specs.Meaning.{Meaning, Facts}
 use Rattle.bus.specs.Calls.{OnBus, load_byte, load_word, store_byte, store_word, give, take}
 use Rattle.machine.specs.Machine.{Shows, Fair, FairAct, Laws, Refused, Quiet, Asks}
 use Rattle.board.specs.Core.{Core, holds, with_next, Fits}
-use Rattle.board.specs.Step.{Comes, OddAccess, OddTarget, immediate, goes_on, results, accesses, loaded, stored, goes_to, branches, act}
+use Rattle.board.specs.Step.{WordOutcome, OddAccess, OddTarget, immediate, goes_on, results, accesses, loaded, stored, goes_to, branches, act}
 use Rattle.board.specs.Viking.{viking}
 use Rattle.board.specs.CoreFits.{holds_fits, goes_fits, results_fit, next_fits, compute_fits, shift_fits, sign_fits, immediate_fits}
 use Rattle.board.specs.BusFair.{LoadFair, StoreFair, load_byte_fair, load_word_fair, store_byte_fair, store_word_fair, give_fair, take_fair}
@@ -32,7 +32,7 @@ stores : (b : Meaning) (core : Core) (addresses : List ℕ) (o : OnBus (Unit {0}
 stores b core addresses (Ok p) fits h = (fits, h)
 stores b core addresses (Err f) fits h = tt
 
-accessed : (b : Meaning) (t : Bool) (further : Comes) → Fair viking b further → Fair viking b (cond t further (Refused OddAccess))
+accessed : (b : Meaning) (t : Bool) (further : WordOutcome) → Fair viking b further → Fair viking b (cond t further (Refused OddAccess))
 accessed b true further h = h
 accessed b false further h = tt
 

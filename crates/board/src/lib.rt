@@ -4,6 +4,7 @@
 ghost use Rattle.machine.specs.Agreement.{Agreement};
 ghost use Rattle.board.specs.Viking.{viking};
 ghost use Rattle.board.specs.VikingLaws.{viking_laws};
+ghost use Rattle.board.specs.Sums.{Sums};
 
 use machine::{Lawful, board_follows_reading};
 
@@ -23,3 +24,8 @@ pub fn boards_follow()
 {
     board_follows_reading::<Viking>();
 }
+
+// What the definitions come to on given values: each kind of word, loads and stores on a bus, and runs of a small program.
+pub fn sums_stand()
+    ensures { Sums }
+{}
