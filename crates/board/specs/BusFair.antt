@@ -1,17 +1,16 @@
 -- Nothing of what a bus is stands here, only the evidence that its calls keep the facts of every bus, and change no byte that peek shows
 -- but those stored.
-use Rattle.std.proofs.Common.{◌≡◌, ℕ, ◌+◌, ◌*◌, ◌-◌, ◌/◌, ◌%◌, ◌<◌, ◌≤◌, Bool, true, false, cond, eqb, ltb, leb, List, [], ◌∷◌, ◌++◌, length, Ok, Err, Result, refl, sym, ◌∙◌, ap, suc, arith, eqb-true, ltb-true}
+use Rattle.std.proofs.Common.{◌≡◌, ℕ, ◌+◌, ◌*◌, ◌-◌, ◌%◌, ◌<◌, ◌≤◌, Bool, true, false, cond, eqb, ltb, leb, List, [], ◌∷◌, ◌++◌, length, Ok, Err, refl, sym, ◌∙◌, ap, suc, arith, eqb-true, ltb-true}
 use Rattle.std.specs.Prelude.{decimal, nat_eq}
-use Rattle.std.specs.List.{list_any}
 use Rattle.std.specs.Str.{IsAscii}
 use Rattle.std.proofs.lemmas.Bool.{cond_both, cond-false}
 use Rattle.std.proofs.lemmas.Fmt.{IsAscii-decimal}
 use Rattle.bus.specs.Meaning.{Place, Cell, Fixed, CharacterPort, NumberPort, InputPort, Nothing, Meaning, Cells, Nothings, kind, HoldsByte, AllBytes, Facts}
-use Rattle.bus.specs.Calls.{OnBus, ask, Width, Byte, Word, Way, ToLoad, ToStore, aligned, something, wide, goes, questions, with_place, with_waiting, with_sent, peek, seen, byte_of, load_byte, receive, input, word_from, load_word, store_byte, low_byte, high_byte, number_text, send, write_word, character, numeric, word_to, store_word, give, take_from, take}
+use Rattle.bus.specs.Calls.{OnBus, ask, Width, Byte, Word, Way, ToLoad, ToStore, aligned, wide, goes, questions, with_place, with_waiting, with_sent, seen, byte_of, load_byte, receive, input, word_from, load_word, store_byte, low_byte, high_byte, number_text, send, write_word, character, numeric, word_to, store_word, give, take_from, take}
 use Rattle.bus.specs.declared.faults.BusFault.{BusFault}
 use Rattle.bus.specs.declared.faults.BusFault.TheVariants.{NoRoom, WaitingFull}
 use Rattle.machine.specs.Machine.{Shows}
-use Rattle.machine.proofs.Facts.{any_not}
+use Rattle.machine.proofs.Facts.{any_not, true≢false}
 use Rattle.board.specs.Viking.{viking}
 
 -- a load leaves a value below a bound, and changes no byte that is shown
@@ -82,19 +81,19 @@ load_word_fair m a h = through (LoadFair m 65536) Word ToLoad m a (word_from m a
 -- a place that takes a byte is a cell, and one that takes a word and is no port is too
 takes_byte : (p : Place) → wide Byte p ≡ true → goes ToStore p ≡ true → kind p ≡ Cells
 takes_byte (Cell b) w g = refl
-takes_byte (Fixed b) w g = absurd (let z : ◌≡◌ {A = ℕ} 0 1 = cc in omega arith)
-takes_byte CharacterPort w g = absurd (let z : ◌≡◌ {A = ℕ} 0 1 = cc in omega arith)
-takes_byte NumberPort w g = absurd (let z : ◌≡◌ {A = ℕ} 0 1 = cc in omega arith)
-takes_byte InputPort w g = absurd (let z : ◌≡◌ {A = ℕ} 0 1 = cc in omega arith)
-takes_byte Nothing w g = absurd (let z : ◌≡◌ {A = ℕ} 0 1 = cc in omega arith)
+takes_byte (Fixed b) w g = absurd (true≢false (sym g))
+takes_byte CharacterPort w g = absurd (true≢false (sym w))
+takes_byte NumberPort w g = absurd (true≢false (sym w))
+takes_byte InputPort w g = absurd (true≢false (sym g))
+takes_byte Nothing w g = absurd (true≢false (sym g))
 
 takes_word : (p : Place) → goes ToStore p ≡ true → character p ≡ false → numeric p ≡ false → kind p ≡ Cells
 takes_word (Cell b) g c n = refl
-takes_word (Fixed b) g c n = absurd (let z : ◌≡◌ {A = ℕ} 0 1 = cc in omega arith)
-takes_word CharacterPort g c n = absurd (let z : ◌≡◌ {A = ℕ} 0 1 = cc in omega arith)
-takes_word NumberPort g c n = absurd (let z : ◌≡◌ {A = ℕ} 0 1 = cc in omega arith)
-takes_word InputPort g c n = absurd (let z : ◌≡◌ {A = ℕ} 0 1 = cc in omega arith)
-takes_word Nothing g c n = absurd (let z : ◌≡◌ {A = ℕ} 0 1 = cc in omega arith)
+takes_word (Fixed b) g c n = absurd (true≢false (sym g))
+takes_word CharacterPort g c n = absurd (true≢false c)
+takes_word NumberPort g c n = absurd (true≢false n)
+takes_word InputPort g c n = absurd (true≢false (sym g))
+takes_word Nothing g c n = absurd (true≢false (sym g))
 
 -- another byte in a cell
 module _ (m : Meaning) (a b : ℕ) (cell : kind (m.place a) ≡ Cells) where
@@ -158,7 +157,7 @@ written m a v small c d h =
     record {
       sound = keeps_facts first (a + 1) (low_byte v) e (omega arith) (keeps_facts m a (high_byte v) c (omega arith) h);
       same = λ x n. (let one = any_not (nat_eq x) a ((a + 1) ∷ []) n in let two = any_not (nat_eq x) (a + 1) [] one.1 in
-      ap seen (other_place first (a + 1) (low_byte v) e x two.0 ∙ other_place m a (high_byte v) c x one.0));
+          ap seen (other_place first (a + 1) (low_byte v) e x two.0 ∙ other_place m a (high_byte v) c x one.0));
     }
 
 pub store_word_fair : (m : Meaning) (a v : ℕ) → v < 65536 → Facts m → StoreFair m (a ∷ (a + 1) ∷ []) (store_word m a v)

@@ -1,6 +1,5 @@
 -- Nothing of what a core is stands here, only the evidence that registers and next address stay below 65,536, and the next address even.
-use Rattle.std.proofs.Common.{◌≡◌, ℕ, zero, suc, ◌+◌, ◌/◌, ◌%◌, ◌<◌, Bool, true, false, cond, eqb, ltb, Some, None, Option, bit_and, arith}
-use Rattle.std.proofs.lemmas.Bool.{cond_both}
+use Rattle.std.proofs.Common.{◌≡◌, ℕ, zero, suc, ◌+◌, ◌/◌, ◌%◌, ◌<◌, Bool, true, false, cond, ltb, Some, None, Option, arith}
 use Rattle.std.proofs.lemmas.Nat.{and_le_l, or_of_16, xor_of_16}
 use Rattle.std.specs.Prelude.{List, [], ◌∷◌, int_lt, slice_index_or}
 use Rattle.std.specs.List.{AllByRecursion}
@@ -29,10 +28,7 @@ one_fits true v x h k = h
 one_fits false v x h k = k
 
 put_fits : (n v : ℕ) (g : Registers) → v < 65536 → AllByRecursion (λ v. v < 65536) (in_order g) → AllByRecursion (λ v. v < 65536) (in_order (put n v g))
-put_fits n v g k h = 
-    let one = λ (i x : ℕ). one_fits (eqb n i) v x k in
-    (one 0 g.r0 h.0, (one 1 g.r1 h.1.0, (one 2 g.r2 h.1.1.0, (one 3 g.r3 h.1.1.1.0, (one 4 g.r4 h.1.1.1.1.0, (one 5 g.r5 h.1.1.1.1.1.0,
-    (one 6 g.r6 h.1.1.1.1.1.1.0, (one 7 g.r7 h.1.1.1.1.1.1.1.0, tt))))))))
+put_fits n v g k h = search (one_fits, arith)
 
 pub holds_fits : (c : Core) (r : Register) → Fits c → holds c r < 65536
 holds_fits c r h = each_fits (in_order c.registers) r.number h.registers_fit

@@ -1,5 +1,5 @@
 -- Sums about the definitions of the board, as they compute.
-use Rattle.std.specs.Prelude.{◌≡◌, ℕ, true, false, cond, List, [], ◌∷◌, length, Some, nat_lt, slice_index}
+use Rattle.std.specs.Prelude.{◌≡◌, ℕ, true, false, cond, List, [], ◌∷◌, length, nat_lt, slice_index}
 use Rattle.word.specs.Registers.{register}
 use Rattle.word.specs.declared.instructions.Computation.TheVariants.{And, Or, Xor, Slt, Sltu, Add, Sub}
 use Rattle.word.specs.declared.instructions.Shift.TheVariants.{Lsr, Asr}
@@ -7,13 +7,13 @@ use Rattle.word.specs.declared.instructions.Width.TheVariants.{Byte, Word}
 use Rattle.word.specs.declared.instructions.Condition.TheVariants.{Zero, NotZero}
 use Rattle.word.specs.declared.instructions.Instruction.{Instruction}
 use Rattle.word.specs.declared.instructions.Instruction.TheVariants.{Compute, ComputeImmediate, Shift, Load, Store, Branch, BranchImmediate, LoadRegister, LoadConstant, Halt}
-use Rattle.bus.specs.Meaning.{Place, Cell, Fixed, InputPort, Nothing, Meaning}
-use Rattle.bus.specs.Calls.{with_place, with_waiting}
+use Rattle.bus.specs.Meaning.{Cell, Fixed, InputPort, Nothing, Meaning}
+use Rattle.bus.specs.Calls.{with_place}
 use Rattle.bus.specs.declared.faults.BusFault.TheVariants.{WrongWay}
 use Rattle.machine.specs.Machine.{Done, Halts, Refused, Quiet, outcome}
 use Rattle.machine.specs.Board.{Halted, Spent, Faulted, OfWord, NotThere, Board, started, board_run}
 use Rattle.board.specs.Core.{Registers, Core}
-use Rattle.board.specs.Step.{Refusal, OddAccess, OddTarget, ByBus, refusal_number, WordAct, WordOutcome, act}
+use Rattle.board.specs.Step.{OddAccess, OddTarget, ByBus, refusal_number, WordAct, act}
 use Rattle.board.specs.Viking.{viking}
 
 -- Registers with these values in r1, r2 and r3; the others are 0.

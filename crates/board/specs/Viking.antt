@@ -1,5 +1,5 @@
 -- The Viking as a machine, over the meaning of a bus.
-use Rattle.std.specs.Prelude.{ℕ, ◌/◌, ◌%◌}
+use Rattle.std.specs.Prelude.{◌%◌}
 use Rattle.word.specs.declared.instructions.Instruction.{Instruction}
 use Rattle.word.specs.Words.{encoded, decoded}
 use Rattle.word.specs.Laws.{HasByte}

@@ -1,20 +1,19 @@
 -- Nothing of what the Viking is stands here, only the evidence that it keeps the laws of a machine.
-use Rattle.std.specs.Prelude.{◌≡◌, ℕ, ◌+◌, ◌*◌, ◌/◌, ◌%◌, ◌<◌, Bool, true, false, cond, List, [], ◌∷◌, Some, Ok, Err, Result, ◌==◌, nat_eq}
+use Rattle.std.specs.Prelude.{◌≡◌, ℕ, ◌+◌, ◌*◌, ◌/◌, ◌%◌, ◌<◌, Bool, true, false, cond, List, [], Some, Ok, Err, ◌==◌}
 use Rattle.std.proofs.Common.{refl, ◌∙◌, ap, subst, arith, eqb-true}
-use Rattle.word.specs.declared.registers.Register.{Register}
 use Rattle.word.specs.declared.instructions.Width.TheVariants.{Byte, Word}
-use Rattle.word.specs.declared.instructions.Operation.TheVariants.{Computes, Branches, LoadsRegister, LoadsConstant}
+use Rattle.word.specs.declared.instructions.Operation.TheVariants.{Computes, Branches, LoadsRegister}
 use Rattle.word.specs.declared.instructions.Instruction.{Instruction}
 use Rattle.word.specs.declared.instructions.Instruction.TheVariants.{Compute, ComputeImmediate, Shift, Load, Store, Branch, BranchImmediate, LoadRegister, LoadConstant, Halt}
 use Rattle.word.specs.Words.{encoded, decoded}
 use Rattle.word.specs.Laws.{HasByte}
-use Rattle.word.specs.Arithmetic.{compute, sign_extend, shift_right, low_byte, is_taken, branch_target}
+use Rattle.word.specs.Arithmetic.{low_byte, is_taken, branch_target}
 use Rattle.word.proofs.Back.{decodes-back}
-use Rattle.bus.specs.Meaning.{Meaning, Facts}
-use Rattle.bus.specs.Calls.{OnBus, load_byte, load_word, store_byte, store_word, give, take}
-use Rattle.machine.specs.Machine.{Shows, Fair, FairAct, Laws, Refused, Quiet, Asks}
+use Rattle.bus.specs.Meaning.{Meaning}
+use Rattle.bus.specs.Calls.{OnBus, load_byte, load_word, store_byte, store_word}
+use Rattle.machine.specs.Machine.{Fair, FairAct, Laws, Refused, Quiet, Asks}
 use Rattle.board.specs.Core.{Core, holds, with_next, Fits}
-use Rattle.board.specs.Step.{WordOutcome, OddAccess, OddTarget, immediate, goes_on, results, accesses, loaded, stored, goes_to, branches, act}
+use Rattle.board.specs.Step.{WordOutcome, OddAccess, OddTarget, immediate, loaded, stored, goes_to, branches, act}
 use Rattle.board.specs.Viking.{viking}
 use Rattle.board.specs.CoreFits.{holds_fits, goes_fits, results_fit, next_fits, compute_fits, shift_fits, sign_fits, immediate_fits}
 use Rattle.board.specs.BusFair.{LoadFair, StoreFair, load_byte_fair, load_word_fair, store_byte_fair, store_word_fair, give_fair, take_fair}
