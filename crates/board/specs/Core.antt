@@ -1,5 +1,5 @@
 -- The core of the Viking: eight registers and a next address.
-use Rattle.std.specs.Prelude.{◌≡◌, ℕ, ◌%◌, ◌<◌, cond, List, [], ◌∷◌, ◌==◌, slice_index_or}
+use Rattle.std.specs.Prelude.{◌≡◌, ℕ, ◌%◌, ◌<◌, ◌≢◌, cond, List, [], ◌∷◌, ◌==◌, slice_index_or}
 use Rattle.std.specs.List.{AllByRecursion}
 use Rattle.word.specs.declared.registers.Register.{Register}
 
@@ -57,3 +57,8 @@ pub record Fits (c : Core) : Type 0 where
   pub registers_fit : AllByRecursion (λ v. v < 65536) (in_order c.registers)
   pub next_fits : c.next < 65536
   pub next_even : c.next % 2 ≡ 0
+
+-- A register that is written holds the value, and every other holds what it held.
+pub record RegistersStand : Type 0 where
+  pub written : (n v : ℕ) (g : Registers) → n < 8 → get n (put n v g) ≡ v
+  pub others : (n q v : ℕ) (g : Registers) → n ≢ q → get q (put n v g) ≡ get q g

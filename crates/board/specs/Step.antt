@@ -1,6 +1,6 @@
 -- What each instruction does to the core and the bus, in the order of the table of mnemonics.
 -- A is the register RsA, and B the register RsB; where Imm is 1, A is the register Rst, and B the immediate.
-use Rattle.std.specs.Prelude.{ℕ, ◌+◌, ◌%◌, Bool, cond, [], ◌∷◌, List, Ok, Err, Result, ◌==◌}
+use Rattle.std.specs.Prelude.{ℕ, ◌+◌, ◌%◌, ◌≢◌, Bool, cond, [], ◌∷◌, List, Ok, Err, Result, ◌==◌}
 use Rattle.word.specs.declared.registers.Register.{Register}
 use Rattle.word.specs.declared.instructions.Computation.{Computation}
 use Rattle.word.specs.declared.instructions.Shift.{Shift}
@@ -15,7 +15,8 @@ use Rattle.word.specs.Arithmetic.{sign_extend, extend, compute, ldr as ldr_resul
 use Rattle.bus.specs.Meaning.{Meaning}
 use Rattle.bus.specs.Calls.{fault_number, load_byte, load_word, store_byte, store_word}
 use Rattle.bus.specs.declared.faults.BusFault.{BusFault}
-use Rattle.machine.specs.Machine.{Outcome, Done, Halts, Refused, Act, Quiet, Asks}
+use Rattle.bus.specs.declared.faults.BusFault.TheVariants.{OddAddress}
+use Rattle.machine.specs.Machine.{Outcome, Done, Halts, Refused, Act, Quiet, Asks, outcome}
 use Rattle.board.specs.Core.{Core, holds, with_register, with_next}
 
 -- Why a word is refused: it accesses a word at an odd address, it branches to an odd address, or the bus refuses.
@@ -135,3 +136,7 @@ act (BranchImmediate x rst n) c = branch_immediate x rst n c
 act (LoadRegister rst n) c = ldr rst n c
 act (LoadConstant rst n) c = ldc rst n c
 act Halt c = hcf c
+
+-- No word is refused as a bus refuses an odd address: an odd access is refused before the bus is asked.
+abbrev pub AskedBefore : Type 0
+AskedBefore = (i : Instruction) (c : Core) (b : Meaning) → outcome (act i c) b ≢ Refused (ByBus OddAddress)

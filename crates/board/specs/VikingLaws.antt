@@ -2,18 +2,18 @@
 use Rattle.std.specs.Prelude.{◌≡◌, ℕ, ◌+◌, ◌*◌, ◌/◌, ◌%◌, ◌<◌, Bool, true, false, cond, List, [], Some, Ok, Err, ◌==◌}
 use Rattle.std.proofs.Common.{refl, ◌∙◌, ap, subst, arith, eqb-true}
 use Rattle.word.specs.declared.instructions.Width.TheVariants.{Byte, Word}
-use Rattle.word.specs.declared.instructions.Operation.TheVariants.{Computes, Branches, LoadsRegister}
+use Rattle.word.specs.declared.instructions.Operation.TheVariants.{Computes, LoadsRegister}
 use Rattle.word.specs.declared.instructions.Instruction.{Instruction}
 use Rattle.word.specs.declared.instructions.Instruction.TheVariants.{Compute, ComputeImmediate, Shift, Load, Store, Branch, BranchImmediate, LoadRegister, LoadConstant, Halt}
 use Rattle.word.specs.Words.{encoded, decoded}
 use Rattle.word.specs.Laws.{HasByte}
-use Rattle.word.specs.Arithmetic.{low_byte, is_taken, branch_target}
+use Rattle.word.specs.Arithmetic.{low_byte, is_taken}
 use Rattle.word.proofs.Back.{decodes-back}
 use Rattle.bus.specs.Meaning.{Meaning}
 use Rattle.bus.specs.Calls.{OnBus, load_byte, load_word, store_byte, store_word}
 use Rattle.machine.specs.Machine.{Fair, FairAct, Laws, Refused, Quiet, Asks}
 use Rattle.board.specs.Core.{Core, holds, with_next, Fits}
-use Rattle.board.specs.Step.{WordOutcome, OddAccess, OddTarget, immediate, loaded, stored, goes_to, branches, act}
+use Rattle.board.specs.Step.{WordOutcome, Refusal, OddTarget, loaded, stored, goes_to, branches, act}
 use Rattle.board.specs.Viking.{viking}
 use Rattle.board.specs.CoreFits.{holds_fits, goes_fits, results_fit, next_fits, compute_fits, shift_fits, sign_fits, immediate_fits}
 use Rattle.board.specs.BusFair.{LoadFair, StoreFair, load_byte_fair, load_word_fair, store_byte_fair, store_word_fair, give_fair, take_fair}
@@ -31,9 +31,9 @@ stores : (b : Meaning) (core : Core) (addresses : List ℕ) (o : OnBus (Unit {0}
 stores b core addresses (Ok p) fits h = (fits, h)
 stores b core addresses (Err f) fits h = tt
 
-accessed : (b : Meaning) (t : Bool) (further : WordOutcome) → Fair viking b further → Fair viking b (cond t further (Refused OddAccess))
-accessed b true further h = h
-accessed b false further h = tt
+accessed : (b : Meaning) (t : Bool) (further : WordOutcome) (why : Refusal) → Fair viking b further → Fair viking b (cond t further (Refused why))
+accessed b true further why h = h
+accessed b false further why h = tt
 
 gone : (c : Core) (a : ℕ) → a < 65536 → Fits c → FairAct viking (goes_to c a)
 gone c a small h = go (a % 2 == 0) refl
@@ -54,17 +54,16 @@ acts (Shift x rst rsa) c v h = results_fit c rst _ (shift_fits x _ (holds_fits c
 acts (Load Byte rst rsb) c v h = λ b s.
     loads b 256 _ (load_byte b (holds c rsb)) (λ y small. results_fit c rst _ (sign_fits y small) h) (load_byte_fair b (holds c rsb) s)
 acts (Load Word rst rsb) c v h = λ b s.
-    accessed b (holds c rsb % 2 == 0) _
+    accessed b (holds c rsb % 2 == 0) _ _
     (loads b 65536 _ (load_word b (holds c rsb)) (λ y small. results_fit c rst y small h) (load_word_fair b (holds c rsb) s))
 acts (Store Byte rsa rsb) c v h = λ b s.
     stores b _ _ (store_byte b (holds c rsb) (low_byte (holds c rsa))) (goes_fits c h)
     (store_byte_fair b (holds c rsb) (low_byte (holds c rsa)) (omega arith) s)
 acts (Store Word rsa rsb) c v h = λ b s.
-    accessed b (holds c rsb % 2 == 0) _
+    accessed b (holds c rsb % 2 == 0) _ _
     (stores b _ _ (store_word b (holds c rsb) (holds c rsa)) (goes_fits c h) (store_word_fair b (holds c rsb) (holds c rsa) (holds_fits c rsa h) s))
 acts (Branch x rsa rsb) c v h = branched c (is_taken x (holds c rsa)) (holds c rsb) (holds_fits c rsb h) h
-acts (BranchImmediate x rst n) c v h =
-    branched c (is_taken x (holds c rst)) (branch_target c.next (immediate (Branches x) n)) (omega arith) h
+acts (BranchImmediate x rst n) c v h = branched c (is_taken x (holds c rst)) _ (omega arith) h
 acts (LoadRegister rst n) c v h = results_fit c rst _ (immediate_fits LoadsRegister n v) h
 acts (LoadConstant rst n) c v h = results_fit c rst _ (omega arith) h
 acts Halt c v h = λ b s. h

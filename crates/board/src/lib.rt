@@ -2,6 +2,8 @@
 #![tactic(auto)]
 
 ghost use Rattle.machine.specs.Agreement.{Agreement};
+ghost use Rattle.board.specs.Core.{RegistersStand};
+ghost use Rattle.board.specs.Step.{AskedBefore};
 ghost use Rattle.board.specs.Viking.{viking};
 ghost use Rattle.board.specs.VikingLaws.{viking_laws};
 ghost use Rattle.board.specs.Sums.{Sums};
@@ -24,6 +26,16 @@ pub fn boards_follow()
 {
     board_follows_reading::<Viking>();
 }
+
+// Registers are told apart by their numbers.
+pub fn registers_stand()
+    ensures { RegistersStand }
+{}
+
+// An odd access is refused before the bus is asked.
+pub fn asked_before()
+    ensures { AskedBefore }
+{}
 
 // What the definitions come to on given values: each kind of word, loads and stores on a bus, and runs of a small program.
 pub fn sums_stand()
