@@ -28,11 +28,12 @@ core a b c next = record { registers = three a b c; next = next }
 abbrev pub does : Instruction → ℕ → ℕ → WordAct
 does i a b = act i (core a b 0 0)
 
--- A core with this value in r3 and the old ones in r1 and r2, at the word behind address 0.
+-- It changes the core alone: to one at address 2, the word behind, with these values in r1, r2 and r3.
 abbrev pub gives : ℕ → ℕ → ℕ → WordAct
 gives a b c = Quiet (core a b c 2)
 
--- A bus with these bytes in cells from address 0 on, and an input port at address 16; one byte may wait, and none be sent.
+-- A bus with these bytes in cells from address 0 on, fixed cells with the byte 0x80 behind them up to 15, and an input port at 16, where these
+-- bytes wait; one byte may wait, and none be sent.
 abbrev pub bus : List ℕ → List ℕ → Meaning
 bus bytes waiting = record {
   place = λ k. cond (nat_lt k (length bytes)) (Cell (slice_index bytes k)) (cond (nat_lt k 16) (Fixed 0x80) (cond (nat_lt k 18) InputPort Nothing));
