@@ -1,2 +1,3 @@
 pub mod Strokes
 pub mod Lines
+pub mod Programs

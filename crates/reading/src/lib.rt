@@ -2,8 +2,21 @@
 #![tactic(auto)]
 
 ghost use Rattle.reading.specs.Lines.{RowsKeep};
+ghost use Rattle.reading.specs.Programs.{ImagesMatch, BoardFollows};
 
 // Each row that has passed its questions keeps what it owes.
 pub fn rows_keep()
     ensures { RowsKeep }
 {}
+
+// The program of every accepted text has the bytes of its image.
+pub fn images_match()
+    ensures { ImagesMatch }
+{}
+
+// The promise: the board follows the reading of every accepted text, until the reading is over.
+pub fn board_follows_text()
+    ensures { BoardFollows }
+{
+    board::boards_follow();
+}
