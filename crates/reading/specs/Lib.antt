@@ -1,3 +1,4 @@
 pub mod Strokes
 pub mod Lines
 pub mod Programs
+pub mod Sums

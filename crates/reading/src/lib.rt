@@ -3,6 +3,7 @@
 
 ghost use Rattle.reading.specs.Lines.{RowsKeep};
 ghost use Rattle.reading.specs.Programs.{ImagesMatch, BoardFollows};
+ghost use Rattle.reading.specs.Sums.{Sums};
 
 // Each row that has passed its questions keeps what it owes.
 pub fn rows_keep()
@@ -20,3 +21,8 @@ pub fn board_follows_text()
 {
     board::boards_follow();
 }
+
+// What the definitions come to on given values: each kind of line, and a small program's page on the board and in the reading.
+pub fn sums_stand()
+    ensures { Sums }
+{}
