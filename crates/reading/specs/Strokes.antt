@@ -30,7 +30,7 @@ on n c = (c.next + 2 * n) % 65536
 abbrev pub past : ℕ → Core → Core
 past n c = with_next c (on n c)
 
--- A line of one word: what its word does.
+-- A line of one word: what its word does. (A row that has passed its questions has a word.)
 abbrev pub one_word : Option Instruction → Core → Meaning → LineOutcome
 one_word (Some i) c b = placed c.next (outcome (act i c) b)
 one_word None c b = Done c b []
