@@ -2,3 +2,4 @@ pub mod Puts
 pub mod Rows
 pub mod Programs
 pub mod Computed
+pub mod Standing

@@ -1,9 +1,9 @@
--- The program of an accepted text, and what is promised of it.
-use Rattle.std.specs.Prelude.{◌≡◌, ℕ, ◌<◌, List, [], ◌∷◌, ◌++◌, length, Some, None, Option, slice_index}
+-- The program of an accepted text, and what is promised of it: its bytes, where its lines stand, and that a board follows its reading.
+use Rattle.std.specs.Prelude.{◌≡◌, ℕ, ◌<◌, List, [], ◌∷◌, ◌+◌, ◌++◌, length, Some, None, Option, slice_index}
 use Rattle.bus.specs.Meaning.{Meaning, Facts}
 use Rattle.bus.specs.Calls.{peek}
 use Rattle.machine.specs.Board.{started}
-use Rattle.machine.specs.Program.{Item, Code, Data, image}
+use Rattle.machine.specs.Program.{Item, Code, Data, bytes as bytes_of, image}
 use Rattle.machine.specs.Reading.{opened}
 use Rattle.machine.specs.Calls.{calls, board_call, reading_call}
 use Rattle.machine.specs.Agreement.{Follows}
@@ -14,6 +14,7 @@ use Rattle.syntax.specs.Data.{data_bytes}
 use Rattle.syntax.specs.Statements.{statement_in}
 use Rattle.assembler.specs.declared.records.LabelRecord.{LabelRecord}
 use Rattle.assembler.specs.declared.records.LineRecord.{LineRecord}
+use Rattle.assembler.specs.declared.records.LineKind.TheVariants as Kind
 use Rattle.assembler.specs.Expansions.{value_in}
 use Rattle.assembler.specs.Placing.{Room}
 use Rattle.assembler.specs.Images.{Part, instruction, datum, part_of, address_in}
@@ -44,6 +45,23 @@ Stands bytes b = (x : ℕ) → x < length bytes → peek b x ≡ Some (slice_ind
 abbrev pub ImagesMatch : Type 0
 ImagesMatch = (free : Room) (most : ℕ) (text bytes : List ℕ) (labels : List LabelRecord) (records : List LineRecord)
     → assembled free most text ≡ accepted bytes labels records → image viking (program text labels) ≡ bytes
+
+-- The instruction lines of a program, each by the address at which it begins and how many words it has, where the program's parts stand
+-- from the address a on.
+abbrev pub begins : List (Item viking) → ℕ → List (ℕ × ℕ)
+begins [] a = []
+begins (Code l ∷ is) a = (a, length l.words) ∷ begins is (a + length (bytes_of viking l.words))
+begins (Data bs ∷ is) a = begins is (a + length bs)
+
+-- The instruction lines among line records, each by its address and its words.
+abbrev pub recorded : List LineRecord → List (ℕ × ℕ)
+recorded [] = []
+recorded (r ∷ rs) = elim r.kind [ Kind.Instruction ↦ (r.address, r.words) ∷ recorded rs | Kind.Data ↦ recorded rs ]
+
+-- The instruction lines of an accepted text's program are those of its line records, with the same addresses and as many words.
+abbrev pub LinesStand : Type 0
+LinesStand = (free : Room) (most : ℕ) (text image : List ℕ) (labels : List LabelRecord) (records : List LineRecord)
+    → assembled free most text ≡ accepted image labels records → recorded records ≡ begins (program text labels) 0
 
 -- The promise: for every accepted text, every core that fits and every bus on which the image stands at 0, a newly started board follows
 -- the reading of the text's program.

@@ -2,7 +2,7 @@
 #![tactic(auto)]
 
 ghost use Rattle.reading.specs.Lines.{RowsKeep};
-ghost use Rattle.reading.specs.Programs.{ImagesMatch, BoardFollows};
+ghost use Rattle.reading.specs.Programs.{ImagesMatch, LinesStand, BoardFollows};
 ghost use Rattle.reading.specs.Sums.{Sums};
 
 // Each row that has passed its questions keeps what it owes.
@@ -13,6 +13,11 @@ pub fn rows_keep()
 // The program of every accepted text has the bytes of its image.
 pub fn images_match()
     ensures { ImagesMatch }
+{}
+
+// The instruction lines of that program stand where the line records say.
+pub fn lines_stand()
+    ensures { LinesStand }
 {}
 
 // The promise: the board follows the reading of every accepted text, until the reading is over.
