@@ -3,3 +3,4 @@ pub mod Rows
 pub mod Programs
 pub mod Computed
 pub mod Standing
+pub mod KeySums

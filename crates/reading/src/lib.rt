@@ -1,6 +1,7 @@
 // The reading of the assembler's lines: what each does at one stroke, and that its words on the board do the same.
 #![tactic(auto)]
 
+ghost use Rattle.reading.specs.KeySums.{KeySums};
 ghost use Rattle.reading.specs.Lines.{RowsKeep};
 ghost use Rattle.reading.specs.Programs.{ImagesMatch, LinesStand, BoardFollows};
 ghost use Rattle.reading.specs.Sums.{Sums};
@@ -30,4 +31,9 @@ pub fn board_follows_text()
 // What the definitions come to on given values: each kind of line, and a small program's page on the board and in the reading.
 pub fn sums_stand()
     ensures { Sums }
+{}
+
+// The sums that the set is known by.
+pub fn key_sums_stand()
+    ensures { KeySums }
 {}
