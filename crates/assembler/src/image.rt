@@ -135,7 +135,7 @@ fn put_line(line: &[u8], text: &[u8], labels: &[LabelRecord], out: &mut Table<u8
 }
 
 /// Puts the image of a text behind what the table holds.
-pub fn put_image(text: &[u8], labels: &[LabelRecord], out: &mut Table<u8>)
+pub(crate) fn put_image(text: &[u8], labels: &[LabelRecord], out: &mut Table<u8>)
     requires { out.old.count + length (image_of (address_in text.now labels.now) (lines text.now)) ≤ size out.old }
     ensures put { filled out.new ≡ filled out.old ++ image_of (address_in text.now labels.now) (lines text.now) }
     ensures spared { Spared out.old out.new }

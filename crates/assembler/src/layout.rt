@@ -33,7 +33,7 @@ impl Position {
 }
 
 /// Places the lines of a text in order, up to the first that is refused.
-pub fn place_lines(
+pub(crate) fn place_lines(
     text: &[u8],
     labels: &mut Table<LabelRecord>,
     lines: &mut Table<LineRecord>,

@@ -8,7 +8,7 @@ ghost use Rattle.assembler.specs.Images.{word_bytes};
 
 use crate::table::Table;
 
-pub fn put_bytes(bytes: &[u8], out: &mut Table<u8>)
+pub(crate) fn put_bytes(bytes: &[u8], out: &mut Table<u8>)
     requires { out.old.count + length bytes.now ≤ size out.old }
     ensures put { filled out.new ≡ filled out.old ++ bytes.now }
     ensures count { out.new.count ≡ out.old.count + length bytes.now }
@@ -20,7 +20,7 @@ pub fn put_bytes(bytes: &[u8], out: &mut Table<u8>)
 }
 
 /// Puts words behind what the image holds, high byte first.
-pub fn put_words(words: &[u16], out: &mut Table<u8>)
+pub(crate) fn put_words(words: &[u16], out: &mut Table<u8>)
     requires { out.old.count + 2 * length words.now ≤ size out.old }
     ensures put { filled out.new ≡ filled out.old ++ word_bytes words.now }
     ensures count { out.new.count ≡ out.old.count + 2 * length words.now }
