@@ -80,6 +80,15 @@ pub fn mnemonics() -> &'static [Mnemonic]
     &MNEMONICS
 }
 
+impl Mnemonic {
+    // A row has words with Imm 1 only where it says how an immediate is extended.
+    fn is_immediately_coded(&self, opcode: u8) -> bool
+        ensures { result ≡ is_immediately_coded opcode (row_in self.now) }
+    {
+        self.opcode == opcode && self.immediate.is_some()
+    }
+}
+
 impl Operation {
     /// Its row of the table.
     pub fn mnemonic(self) -> Mnemonic
@@ -125,7 +134,7 @@ impl Operation {
     {
         mnemonics()
             .iter()
-            .find(|m| m.opcode == opcode && m.immediate.is_some())
+            .find(|m| m.is_immediately_coded(opcode))
             .map(|m| m.operation)
     }
 
