@@ -1,18 +1,21 @@
 -- Nothing of what a console is stands here, only the evidence that it hands over as a bus: that its meaning keeps the facts of every bus.
-use Rattle.std.specs.Prelude.{◌≡◌, ℕ, ◌+◌, ◌%◌, ◌≤◌, cond, List, [], ◌∷◌, map, ◌==◌, refl}
+use Rattle.std.specs.Prelude.{◌≡◌, ℕ, zero, suc, ◌+◌, ◌%◌, ◌≤◌, cond, List, map, ◌==◌, refl}
 use Rattle.std.proofs.Common.{sym, ap, ◌∙◌, arith, ne_eqb}
 use Rattle.std.proofs.lemmas.Bool.{cond-false}
+use Rattle.std.specs.List.{range_with_len}
 use Rattle.bus.specs.Meaning.{Meaning, Place, Cell, Fixed, CharacterPort, NumberPort, InputPort, Nothing, Kind, Cells, FixedCells, CharacterPorts, NumberPorts, InputPorts, Nothings, kind, HoldsByte, AllBytes, Facts}
 use Rattle.bus.specs.Shown.{byte, holds, one_kind}
-use Rattle.arrayvec.specs.ArrayVec.{ArrayVec}
-use Rattle.console.specs.Consoles.{word_start, covered, console, bytes_in}
+use Rattle.console.specs.Rings.{at_turn, ring, from, up_to, items}
+use Rattle.console.specs.Consoles.{word_start, covered, console}
+use Rattle.console.specs.declared.queue.Queue.{Queue}
 
-bytes_below : (bs : List ℕ) → AllBytes (map (λ b. b % 256) bs)
-bytes_below [] = tt
-bytes_below (b ∷ bs) = (byte b, bytes_below bs)
+turns_bytes : (n : ℕ) (bytes : List ℕ) (first a count : ℕ) → AllBytes (map (at_turn n bytes first) (range_with_len a count))
+turns_bytes n bytes first a zero = tt
+turns_bytes n bytes first a (suc count) = (byte _, turns_bytes n bytes first (a + 1) count)
 
-pub all_bytes : (q : ArrayVec ℕ) → AllBytes (bytes_in q)
-all_bytes q = bytes_below q.items
+pub items_bytes : {n : ℕ} (q : Queue n) → AllBytes (items q)
+unfolding ring
+items_bytes {n} q = turns_bytes n q.bytes (from n q.first) 0 (up_to n q.count)
 
 -- the kind of a covered place goes by the kind of the place
 abbrev covered_kind : Kind → Kind

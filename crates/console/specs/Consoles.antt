@@ -1,7 +1,6 @@
 -- The console: three ports with queues of their own over another bus.
-use Rattle.std.specs.Prelude.{ℕ, ◌+◌, ◌-◌, ◌*◌, ◌%◌, Bool, cond, List, ◌++◌, map, length, Ok, Err, nat_le, ◌==◌}
-use Rattle.arrayvec.specs.ArrayVec.{ArrayVec}
-use Rattle.bus.specs.Sizes.{byte_values, word_bytes}
+use Rattle.std.specs.Prelude.{ℕ, ◌+◌, ◌-◌, ◌*◌, ◌%◌, Bool, cond, List, ◌++◌, length, Ok, Err, nat_le, ◌==◌}
+use Rattle.bus.specs.Sizes.{word_bytes}
 use Rattle.bus.specs.Meaning.{Place, Cell, Fixed, CharacterPort, NumberPort, InputPort, Nothing, Meaning}
 use Rattle.bus.specs.Calls.{Outcome, port}
 use Rattle.bus.specs.declared.faults.BusFault.{BusFault}
@@ -26,10 +25,6 @@ console_waiting = 256
 -- The most sent bytes that stand at a console.
 abbrev pub console_sent : ℕ
 console_sent = 1024
-
--- The bytes in a queue, oldest first, each by its lowest eight bits, which are all that a byte has.
-abbrev pub bytes_in : ArrayVec ℕ → List ℕ
-bytes_in q = map (λ b. b % byte_values) q.items
 
 -- A text after `xs`, all of it or, with 35, none of it, where `most` bytes may stand.
 abbrev pub added : ℕ → List ℕ → List ℕ → Outcome (List ℕ) (Unit {0}) BusFault

@@ -7,10 +7,13 @@ ghost use Rattle.bus.specs.Meaning.{Meaning, Facts};
 ghost use Rattle.bus.specs.Calls.{Comes, Byte, Word, peek, load_byte, load_word, store_byte, store_word, give, take};
 ghost use Rattle.bus.specs.Stores.{Store, accepted};
 ghost use Rattle.bus.specs.Kept.{Kept, hiding};
-ghost use Rattle.console.specs.Consoles.{console, console_hides, at_port, bytes_in, added};
-ghost use Rattle.console.specs.ConsoleShown.{all_bytes, console_facts};
+ghost use Rattle.console.specs.Rings.{items};
+ghost use Rattle.console.specs.Consoles.{console, console_hides, at_port, added};
+ghost use Rattle.console.specs.ConsoleShown.{items_bytes, console_facts};
 
-use arrayvec::ArrayVec;
+mod queue;
+
+use crate::queue::Queue;
 use bus::{Bus, BusFault};
 use itoa::Buffer;
 
@@ -30,8 +33,8 @@ const INPUT_PORT: u16 = 0xF004;
 #[derive(Drop)]
 pub struct Console<B: Bus + Drop> {
     below: B,
-    waiting: ArrayVec<u8, WAITING_MOST>,
-    sent: ArrayVec<u8, SENT_MOST>,
+    waiting: Queue<WAITING_MOST>,
+    sent: Queue<SENT_MOST>,
 }
 
 // Does one of the console's ports cover `a`?
@@ -52,23 +55,26 @@ fn no_byte(a: u16) -> BusFault
 }
 
 // Sends a text, all of it or, where it does not fit, nothing.
-fn send(sent: &mut ArrayVec<u8, SENT_MOST>, text: &[u8]) -> Result<(), BusFault>
-    ensures { Comes (added 1024 (bytes_in sent.old) text.now) (bytes_in sent.old) result (bytes_in sent.new) }
+fn send(sent: &mut Queue<SENT_MOST>, text: &[u8]) -> Result<(), BusFault>
+    ensures { Comes (added 1024 (items sent.old) text.now) (items sent.old) result (items sent.new) }
 {
-    sent.try_extend_from_slice(text)
-        .map_err(|_| BusFault::NoRoom)
+    if SENT_MOST - sent.len() < text.len() {
+        return Err(BusFault::NoRoom);
+    }
+    sent.push_all(text);
+    Ok(())
 }
 
 impl<B: Bus + Drop> Console<B> {
     // Nothing waits at a new console, and nothing was sent.
     pub fn new(below: B) -> Console<B>
         ensures under { result.below ≡ below }
-        ensures quiet { (bytes_in result.waiting ≡ []) × (bytes_in result.sent ≡ []) }
+        ensures quiet { (items result.waiting ≡ []) × (items result.sent ≡ []) }
     {
         Console {
             below,
-            waiting: ArrayVec::new(),
-            sent: ArrayVec::new(),
+            waiting: Queue::new(),
+            sent: Queue::new(),
         }
     }
 
@@ -86,9 +92,9 @@ impl<B: Bus + Drop> Console<B> {
 }
 
 impl<B: Bus + Drop> Bus for Console<B> {
-    ghost meaning = { λ s. console (bytes_in s.waiting) (bytes_in s.sent) (B.Bus.meaning s.below) };
+    ghost meaning = { λ s. console (items s.waiting) (items s.sent) (B.Bus.meaning s.below) };
 
-    ghost facts = { λ s. console_facts (bytes_in s.waiting) (bytes_in s.sent) (B.Bus.meaning s.below) (all_bytes s.waiting) (all_bytes s.sent) (B.Bus.facts s.below) };
+    ghost facts = { λ s. console_facts (items s.waiting) (items s.sent) (B.Bus.meaning s.below) (items_bytes s.waiting) (items_bytes s.sent) (B.Bus.facts s.below) };
 
     ghost kept = { λ s. hiding (console_hides (B.Bus.meaning s.below)) (B.Bus.kept s.below) };
 
@@ -114,7 +120,7 @@ impl<B: Bus + Drop> Bus for Console<B> {
             CHARACTER_PORT | NUMBER_PORT => Err(BusFault::WrongWay),
             INPUT_PORT => self
                 .waiting
-                .pop_at(0)
+                .pop()
                 .map(u16::from)
                 .ok_or(BusFault::NoneWaiting),
             _ => {
@@ -150,10 +156,14 @@ impl<B: Bus + Drop> Bus for Console<B> {
     }
 
     fn give(&mut self, b: u8) -> Result<(), BusFault> {
-        self.waiting.try_push(b).map_err(|_| BusFault::WaitingFull)
+        if WAITING_MOST <= self.waiting.len() {
+            return Err(BusFault::WaitingFull);
+        }
+        self.waiting.push(b);
+        Ok(())
     }
 
     fn take(&mut self) -> Result<u8, BusFault> {
-        self.sent.pop_at(0).ok_or(BusFault::NoneSent)
+        self.sent.pop().ok_or(BusFault::NoneSent)
     }
 }
