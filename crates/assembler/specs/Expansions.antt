@@ -1,5 +1,5 @@
 -- Expansions: the instructions that a row spells.
-use Rattle.std.specs.Prelude.{ℕ, ◌-◌, ◌/◌, ◌%◌, List, [], ◌∷◌, ◌++◌, map, ℤ, pos, negsuc, Some, None, Option}
+use Rattle.std.specs.Prelude.{ℕ, ◌-◌, ◌/◌, ◌%◌, List, [], ◌∷◌, ◌++◌, map, take, ℤ, pos, negsuc, Some, None, Option}
 use Rattle.word.specs.declared.registers.Register.{Register}
 use Rattle.word.specs.declared.instructions.Computation.TheVariants.{Xor, Add, Sub}
 use Rattle.word.specs.declared.instructions.Shift.TheVariants.{Lsr, Asr}
@@ -10,6 +10,7 @@ use Rattle.word.specs.Words.{encoded, with_registers, with_immediate}
 use Rattle.syntax.specs.declared.rows.LongShift.{LongShift}
 use Rattle.syntax.specs.declared.rows.LongShift.TheVariants.{Logical, Arithmetic, Leftward}
 use Rattle.syntax.specs.Data.{word_of}
+use Rattle.assembler.specs.declared.spelling.Spelling.{Spelling}
 use Rattle.syntax.specs.Rows.{Value, plain, address_of, Row, registers, immediate, negation, constant, load_from, store_to, branch_to, long_shift, zero}
 
 -- The byte of an immediate in range: negative numbers count down from 256.
@@ -73,3 +74,7 @@ word_count (load_from w r c) = 3
 word_count (store_to w r c) = 3
 word_count (branch_to c r t) = 3
 word_count (long_shift d r s) = 3
+
+-- The words that a spelling holds.
+abbrev pub held : Spelling → List ℕ
+held s = take s.count s.words

@@ -3,15 +3,12 @@ ghost use Rattle.std.specs.Prelude.{◌≡◌, ◌/◌, ◌%◌, ◌≤◌, [], 
 ghost use Rattle.word.specs.Registers.{register as numbered};
 ghost use Rattle.word.specs.Words.{encoded};
 ghost use Rattle.syntax.specs.Rows.{said_row};
-ghost use Rattle.assembler.specs.Expansions.{byte_of, list_of, ldi, shift_once, words, word_count};
+ghost use Rattle.assembler.specs.Expansions.{byte_of, list_of, ldi, shift_once, words, word_count, held};
 ghost use Rattle.assembler.specs.Laws.{CountsStand};
 
-use arrayvec::ArrayVec;
+use crate::spelling::Spelling;
 use syntax::{LongShift, Row};
 use word::{Computation, Condition, Instruction, Register, Shift, encode};
-
-/// The words of a row: no row has more than three.
-pub type Spelling = ArrayVec<u16, 3>;
 
 fn byte_of(n: i64) -> u8
     ensures { result ≡ byte_of n }
@@ -19,20 +16,28 @@ fn byte_of(n: i64) -> u8
     n.rem_euclid(256) as u8
 }
 
+fn register(number: u8) -> Register
+    ensures { result ≡ numbered number }
+{
+    Register::of_bits(u16::from(number))
+}
+
 fn spelled(instructions: &[Instruction]) -> Spelling
     requires { length instructions.now ≤ 3 }
-    ensures { result.items ≡ map encoded instructions.now }
+    ensures text { held result ≡ map encoded instructions.now }
+    ensures size { result.count ≤ 3 }
 {
-    let mut words = ArrayVec::new();
+    let mut spelling = Spelling::new();
     for instruction in instructions {
-        words.push(encode(*instruction));
+        spelling.push(encode(*instruction));
     }
-    words
+    spelling
 }
 
 // One instruction, or none.
 fn spelled_alone(instruction: Option<Instruction>) -> Spelling
-    ensures { result.items ≡ map encoded (list_of instruction) }
+    ensures text { held result ≡ map encoded (list_of instruction) }
+    ensures size { result.count ≤ 3 }
 {
     spelled(instruction.as_slice())
 }
@@ -56,7 +61,8 @@ fn ldi(register: Register, value: u16) -> (Instruction, Instruction)
 
 // ldi at,c and one more instruction.
 fn through_at(value: u16, last: Instruction) -> Spelling
-    ensures { result.items ≡ encoded (Instruction.LoadConstant (numbered 0) (value / 256)) ∷ encoded (Instruction.LoadConstant (numbered 0) (value % 256)) ∷ encoded last ∷ [] }
+    ensures text { held result ≡ encoded (Instruction.LoadConstant (numbered 0) (value / 256)) ∷ encoded (Instruction.LoadConstant (numbered 0) (value % 256)) ∷ encoded last ∷ [] }
+    ensures size { result.count ≤ 3 }
 {
     let (high, low) = ldi(Register::of_bits(0), value);
     spelled(&[high, low, last])
@@ -86,7 +92,8 @@ fn shift_once(shift: LongShift, r: Register) -> Instruction
 }
 
 fn negation(r: Register) -> Spelling
-    ensures { result.items ≡ encoded (Instruction.Compute Computation.Xor (numbered 0) (numbered 0) (numbered 0)) ∷ encoded (Instruction.Compute Computation.Sub r (numbered 0) r) ∷ [] }
+    ensures text { held result ≡ encoded (Instruction.Compute Computation.Xor (numbered 0) (numbered 0) (numbered 0)) ∷ encoded (Instruction.Compute Computation.Sub r (numbered 0) r) ∷ [] }
+    ensures size { result.count ≤ 3 }
 {
     let at = Register::of_bits(0);
     let clear = Instruction::Compute {
@@ -105,7 +112,8 @@ fn negation(r: Register) -> Spelling
 }
 
 fn long_shift(shift: LongShift, r: Register, s: Register) -> Spelling
-    ensures { result.items ≡ encoded (shift_once shift r) ∷ encoded (Instruction.ComputeImmediate Computation.Sub s 1) ∷ encoded (Instruction.BranchImmediate Condition.NotZero s 250) ∷ [] }
+    ensures text { held result ≡ encoded (shift_once shift r) ∷ encoded (Instruction.ComputeImmediate Computation.Sub s 1) ∷ encoded (Instruction.BranchImmediate Condition.NotZero s 250) ∷ [] }
+    ensures size { result.count ≤ 3 }
 {
     let count_down = Instruction::ComputeImmediate {
         computation: Computation::Sub,
@@ -122,42 +130,49 @@ fn long_shift(shift: LongShift, r: Register, s: Register) -> Spelling
 
 /// The words of a row, given the value that it takes in.
 pub fn spell(row: Row<'_>, value: u16) -> Spelling
-    ensures { result.items ≡ words value (said_row row.entry) }
+    ensures text { held result ≡ words value (said_row row.entry) }
+    ensures size { result.count ≤ 3 }
 {
-    let at = Register::of_bits(0);
+    let at = register(0);
     match row {
-        Row::Registers(operation, a, b, c) => spelled_alone(operation.with_registers(a, b, c)),
-        Row::Immediate(operation, r, n) => spelled_alone(operation.with_immediate(r, byte_of(n))),
-        Row::Negation(r) => negation(r),
+        Row::Registers(operation, a, b, c) => spelled_alone(operation.with_registers(
+            register(a),
+            register(b),
+            register(c),
+        )),
+        Row::Immediate(operation, r, n) => {
+            spelled_alone(operation.with_immediate(register(r), byte_of(n)))
+        },
+        Row::Negation(r) => negation(register(r)),
         Row::Constant(r, _) => {
-            let (high, low) = ldi(r, value);
+            let (high, low) = ldi(register(r), value);
             spelled(&[high, low])
         }
-        Row::LoadFrom(width, target, _) => through_at(
+        Row::LoadFrom(width, r, _) => through_at(
             value,
             Instruction::Load {
                 width,
-                target,
+                target: register(r),
                 address: at,
             },
         ),
-        Row::StoreTo(width, source, _) => through_at(
+        Row::StoreTo(width, r, _) => through_at(
             value,
             Instruction::Store {
                 width,
-                source,
+                source: register(r),
                 address: at,
             },
         ),
-        Row::BranchTo(condition, tested, _) => through_at(
+        Row::BranchTo(condition, r, _) => through_at(
             value,
             Instruction::Branch {
                 condition,
-                tested,
+                tested: register(r),
                 target: at,
             },
         ),
-        Row::LongShift(shift, r, s) => long_shift(shift, r, s),
+        Row::LongShift(shift, r, s) => long_shift(shift, register(r), register(s)),
     }
 }
 

@@ -22,6 +22,6 @@ pub fn find_label(records: &[LabelRecord], text: &[u8], name: &[u8]) -> Option<L
 {
     records
         .iter()
-        .copied()
         .find(|record| record.is_named(text, name))
+        .copied()
 }

@@ -1,6 +1,7 @@
 -- Operands.
 use Rattle.std.specs.Prelude.{ℕ, Bool, true, false, List, [], ◌∷◌, ℤ, Some, None, Option}
 use Rattle.word.specs.declared.registers.Register.{Register}
+use Rattle.word.specs.Registers.{register as numbered}
 use Rattle.syntax.specs.declared.cuts.Separator.TheVariants.{Comma}
 use Rattle.syntax.specs.declared.operands.Operand as Code
 use Rattle.syntax.specs.declared.operands.Operand.TheVariants as O
@@ -74,7 +75,7 @@ operands_in = operands_by number
 
 -- What the program's values say.
 abbrev pub said : Code.Operand → Operand
-said (O.Register r) = register r
+said (O.Register n) = register (numbered n)
 said (O.Number z) = numeral z
 said (O.Name t) = name t.now
 

@@ -250,14 +250,14 @@ said_value (V.Number z) = plain z
 said_value (V.Name t) = address_of t.now
 
 abbrev pub said_row : CodeRow.Row → Row
-said_row (R.Registers x a b c) = registers x a b c
-said_row (R.Immediate x r z) = immediate x r z
-said_row (R.Negation r) = negation r
-said_row (R.Constant r v) = constant r (said_value v)
-said_row (R.LoadFrom w r v) = load_from w r (said_value v)
-said_row (R.StoreTo w r v) = store_to w r (said_value v)
-said_row (R.BranchTo c r t) = branch_to c r t.now
-said_row (R.LongShift d r s) = long_shift d r s
+said_row (R.Registers x a b c) = registers x (numbered a) (numbered b) (numbered c)
+said_row (R.Immediate x r z) = immediate x (numbered r) z
+said_row (R.Negation r) = negation (numbered r)
+said_row (R.Constant r v) = constant (numbered r) (said_value v)
+said_row (R.LoadFrom w r v) = load_from w (numbered r) (said_value v)
+said_row (R.StoreTo w r v) = store_to w (numbered r) (said_value v)
+said_row (R.BranchTo c r t) = branch_to c (numbered r) t.now
+said_row (R.LongShift d r s) = long_shift d (numbered r) (numbered s)
 
 abbrev pub mapped_ok : {X Y E : Type 0} → (X → Y) → Result X E → Result Y E
 mapped_ok f (Ok x) = Ok (f x)

@@ -2,6 +2,7 @@
 ghost use Rattle.std.specs.Prelude.{◌≡◌, Some};
 ghost use Rattle.syntax.specs.Rows.{fits_byte, fits_word, fits_value, in_range, registers_fit, asked, judged, row_of, said_value, said_row, mapped_ok};
 ghost use Rattle.syntax.specs.Operands.{said_all};
+ghost use Rattle.word.specs.Registers.{register as numbered};
 
 use crate::mnemonics::Mnemonic;
 use crate::operands::Operands;
@@ -56,23 +57,30 @@ fn in_range(row: Row<'_>) -> bool
     }
 }
 
+fn register(number: u8) -> Register
+    ensures { result ≡ numbered number }
+{
+    Register::of_bits(u16::from(number))
+}
+
 fn registers_fit(row: Row<'_>) -> bool
     ensures { result ≡ registers_fit (said_row row.entry) }
 {
-    let zero = Register::of_bits(0);
+    let zero = register(0);
     match row {
         Row::Registers(operation, a, b, c) => {
-            operation
-                .mnemonic()
-                .shape
-                .is_some_and(|shape| shape.keeps_zero(a, b, c))
+            operation.mnemonic().shape.is_some_and(|shape| shape.keeps_zero(
+                register(a),
+                register(b),
+                register(c),
+            ))
         }
         Row::Immediate(..) | Row::Constant(..) => true,
         Row::Negation(r)
         | Row::LoadFrom(_, r, _)
         | Row::StoreTo(_, r, _)
-        | Row::BranchTo(_, r, _) => r != zero,
-        Row::LongShift(_, r, s) => r != s,
+        | Row::BranchTo(_, r, _) => register(r) != zero,
+        Row::LongShift(_, r, s) => register(r) != register(s),
     }
 }
 

@@ -9,12 +9,12 @@ ghost use Rattle.syntax.specs.Numbers.{held_number};
 use crate::cuts::{Separator, cut};
 use crate::names::{is_name, read_register};
 use crate::numbers::read_number;
-use word::Register;
 
-/// One operand, as it stands between commas.
+/// One operand, as it stands between commas. A register is held by a number, which is read modulo 8.
+// Stays: a number and no `Register`, whose type is narrower: who gives operands and rows may give any number.
 #[derive(Clone, Copy)]
 pub enum Operand<'a> {
-    Register(Register),
+    Register(u8),
     Number(i64),
     Name(&'a [u8]),
 }
@@ -33,7 +33,7 @@ fn read_operand(text: &[u8]) -> Option<Operand<'_>>
     ensures { option_map said result ≡ operand_by held_number text.now }
 {
     if let Some(register) = read_register(text) {
-        return Some(Operand::Register(register));
+        return Some(Operand::Register(register.number()));
     }
     if is_name(text) {
         return Some(Operand::Name(text));

@@ -1,12 +1,13 @@
 // Rows: which lines there are, by mnemonic and operands.
 ghost use Rattle.std.specs.Prelude.{◌≡◌};
 ghost use Rattle.std.specs.Option.{option_map};
+ghost use Rattle.word.specs.Registers.{register as numbered};
 ghost use Rattle.syntax.specs.Operands.{said, said_all};
 ghost use Rattle.syntax.specs.Rows.{of_none, of_one, of_two_registers, of_number, of_name, of_three, of_two, row_of, number_of, said_row};
 
 use crate::mnemonics::{Mnemonic, Pseudo};
 use crate::operands::{Operand, Operands};
-use word::{Computation, Condition, Operation, Register, Shape, Width};
+use word::{Computation, Condition, Operation, Shape, Width};
 
 /// A shift by as many places as a register says.
 #[derive(Clone, Copy, PartialEq, Eq, Debug)]
@@ -26,25 +27,25 @@ pub enum Value<'a> {
     Name(&'a [u8]),
 }
 
-/// A line's row with its operands.
+/// A line's row with its operands, registers by their numbers.
 #[derive(Clone, Copy)]
 pub enum Row<'a> {
     /// One word with Imm 0: Rst, RsA, RsB.
-    Registers(Operation, Register, Register, Register),
+    Registers(Operation, u8, u8, u8),
     /// One word with Imm 1: Rst and the number.
-    Immediate(Operation, Register, i64),
+    Immediate(Operation, u8, i64),
     /// neg r
-    Negation(Register),
+    Negation(u8),
     /// ldi r,c
-    Constant(Register, Value<'a>),
+    Constant(u8, Value<'a>),
     /// ldb, ldw r,c
-    LoadFrom(Width, Register, Value<'a>),
+    LoadFrom(Width, u8, Value<'a>),
     /// stb, stw r,c
-    StoreTo(Width, Register, Value<'a>),
+    StoreTo(Width, u8, Value<'a>),
     /// bez, bnz r,name
-    BranchTo(Condition, Register, &'a [u8]),
+    BranchTo(Condition, u8, &'a [u8]),
     /// lsrm, asrm, lslm r,s
-    LongShift(LongShift, Register, Register),
+    LongShift(LongShift, u8, u8),
 }
 
 /// Why an instruction was refused.
@@ -69,26 +70,20 @@ impl InstructionFault {
 fn of_none<'a>(mnemonic: Mnemonic) -> Option<Row<'a>>
     ensures { option_map said_row result ≡ of_none mnemonic }
 {
-    let zero = Register::of_bits(0);
     match mnemonic {
-        Mnemonic::OfWord(Operation::Halts) => Some(Row::Registers(
-            Operation::Halts,
-            zero,
-            zero,
-            zero,
-        )),
+        Mnemonic::OfWord(Operation::Halts) => Some(Row::Registers(Operation::Halts, 0, 0, 0)),
         Mnemonic::OfPseudo(Pseudo::Nop) => Some(Row::Registers(
             Operation::Computes(Computation::And),
-            zero,
-            zero,
-            zero,
+            0,
+            0,
+            0,
         )),
         _ => None,
     }
 }
 
-fn of_one<'a>(mnemonic: Mnemonic, r: Register) -> Option<Row<'a>>
-    ensures { option_map said_row result ≡ of_one mnemonic r }
+fn of_one<'a>(mnemonic: Mnemonic, r: u8) -> Option<Row<'a>>
+    ensures { option_map said_row result ≡ of_one mnemonic (numbered r) }
 {
     match mnemonic {
         Mnemonic::OfPseudo(Pseudo::Not) => Some(Row::Immediate(
@@ -101,20 +96,19 @@ fn of_one<'a>(mnemonic: Mnemonic, r: Register) -> Option<Row<'a>>
     }
 }
 
-fn leaves_out<'a>(operation: Operation, r: Register, s: Register) -> Option<Row<'a>>
-    ensures { option_map said_row result ≡ of_two_registers (Mnemonic.OfWord operation) r s }
+fn leaves_out<'a>(operation: Operation, r: u8, s: u8) -> Option<Row<'a>>
+    ensures { option_map said_row result ≡ of_two_registers (Mnemonic.OfWord operation) (numbered r) (numbered s) }
 {
-    let zero = Register::of_bits(0);
     match operation.mnemonic().shape? {
-        Shape::LastZero => Some(Row::Registers(operation, r, s, zero)),
-        Shape::MiddleZero => Some(Row::Registers(operation, r, zero, s)),
-        Shape::FirstZero => Some(Row::Registers(operation, zero, r, s)),
+        Shape::LastZero => Some(Row::Registers(operation, r, s, 0)),
+        Shape::MiddleZero => Some(Row::Registers(operation, r, 0, s)),
+        Shape::FirstZero => Some(Row::Registers(operation, 0, r, s)),
         Shape::ThreeRegisters | Shape::NoOperands => None,
     }
 }
 
-fn of_two_registers<'a>(mnemonic: Mnemonic, r: Register, s: Register) -> Option<Row<'a>>
-    ensures { option_map said_row result ≡ of_two_registers mnemonic r s }
+fn of_two_registers<'a>(mnemonic: Mnemonic, r: u8, s: u8) -> Option<Row<'a>>
+    ensures { option_map said_row result ≡ of_two_registers mnemonic (numbered r) (numbered s) }
 {
     match mnemonic {
         Mnemonic::OfWord(operation) => leaves_out(operation, r, s),
@@ -131,8 +125,8 @@ fn of_two_registers<'a>(mnemonic: Mnemonic, r: Register, s: Register) -> Option<
     }
 }
 
-fn word_of_number<'a>(operation: Operation, r: Register, n: i64) -> Option<Row<'a>>
-    ensures { option_map said_row result ≡ of_number (Mnemonic.OfWord operation) r n }
+fn word_of_number<'a>(operation: Operation, r: u8, n: i64) -> Option<Row<'a>>
+    ensures { option_map said_row result ≡ of_number (Mnemonic.OfWord operation) (numbered r) n }
 {
     match operation {
         Operation::Loads(width) => Some(Row::LoadFrom(width, r, Value::Number(n))),
@@ -143,8 +137,8 @@ fn word_of_number<'a>(operation: Operation, r: Register, n: i64) -> Option<Row<'
 }
 
 // Stays: a mnemonic and its operands one by one, and apart from names: the rows are told apart by these kinds.
-fn of_number<'a>(mnemonic: Mnemonic, r: Register, n: i64) -> Option<Row<'a>>
-    ensures { option_map said_row result ≡ of_number mnemonic r n }
+fn of_number<'a>(mnemonic: Mnemonic, r: u8, n: i64) -> Option<Row<'a>>
+    ensures { option_map said_row result ≡ of_number mnemonic (numbered r) n }
 {
     match mnemonic {
         Mnemonic::OfWord(operation) => word_of_number(operation, r, n),
@@ -153,8 +147,8 @@ fn of_number<'a>(mnemonic: Mnemonic, r: Register, n: i64) -> Option<Row<'a>>
     }
 }
 
-fn of_name<'a>(mnemonic: Mnemonic, r: Register, name: &'a [u8]) -> Option<Row<'a>>
-    ensures { option_map said_row result ≡ of_name mnemonic r name.now }
+fn of_name<'a>(mnemonic: Mnemonic, r: u8, name: &'a [u8]) -> Option<Row<'a>>
+    ensures { option_map said_row result ≡ of_name mnemonic (numbered r) name.now }
 {
     match mnemonic {
         Mnemonic::OfWord(Operation::Loads(width)) => Some(Row::LoadFrom(
@@ -173,8 +167,8 @@ fn of_name<'a>(mnemonic: Mnemonic, r: Register, name: &'a [u8]) -> Option<Row<'a
     }
 }
 
-fn of_three<'a>(mnemonic: Mnemonic, a: Register, b: Register, c: Register) -> Option<Row<'a>>
-    ensures { option_map said_row result ≡ of_three mnemonic a b c }
+fn of_three<'a>(mnemonic: Mnemonic, a: u8, b: u8, c: u8) -> Option<Row<'a>>
+    ensures { option_map said_row result ≡ of_three mnemonic (numbered a) (numbered b) (numbered c) }
 {
     let Mnemonic::OfWord(operation) = mnemonic else {
         return None;
@@ -185,8 +179,8 @@ fn of_three<'a>(mnemonic: Mnemonic, a: Register, b: Register, c: Register) -> Op
     }
 }
 
-fn of_two<'a>(mnemonic: Mnemonic, r: Register, second: Operand<'a>) -> Option<Row<'a>>
-    ensures { option_map said_row result ≡ of_two mnemonic r (said second.entry) }
+fn of_two<'a>(mnemonic: Mnemonic, r: u8, second: Operand<'a>) -> Option<Row<'a>>
+    ensures { option_map said_row result ≡ of_two mnemonic (numbered r) (said second.entry) }
 {
     match second {
         Operand::Register(s) => of_two_registers(mnemonic, r, s),
