@@ -24,6 +24,11 @@ pub type TwoBytes = WordsOf<2>;
 
 pub type FourBytes = WordsOf<4>;
 
+// Each size has one machine, which the name of its type stands for too.
+pub const TwoBytes: TwoBytes = WordsOf;
+
+pub const FourBytes: FourBytes = WordsOf;
+
 // Each kind of line keeps what it owes, at both sizes.
 pub fn rows_keep()
     ensures { RowsKeep }
