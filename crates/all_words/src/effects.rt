@@ -1,5 +1,5 @@
 // What a word at a fixed address does to the registers, told and not done.
-use std::fmt;
+use std::alloc::AllocError;
 use word::{Condition, Instruction, Operation, Register, Width, arithmetic};
 
 /// Where the words stand: next addresses and branches wrap from here.
@@ -68,22 +68,60 @@ fn name(width: Width) -> &'static str {
     }
 }
 
-impl fmt::Display for Effect {
-    fn fmt<W: fmt::Write>(&self, f: &mut fmt::Formatter<W>) -> fmt::Result {
-        match *self {
-            Effect::Register { target, value } => write!(f, "r{}={value:04x}", target.number()),
+/// Adds a word as four hexadecimal digits.
+// Stays: digit by digit, and pushed: a `Display` with `{:04x}` takes the whole program nearly twice as long.
+pub fn push_word(out: &mut String, word: u16) -> Result<(), AllocError> {
+    for place in [12, 8, 4, 0] {
+        let digit = char::from_digit(u32::from(word >> place) % 16, 16);
+        out.push(digit.unwrap_or('0'))?;
+    }
+    Ok(())
+}
+
+fn push_register(out: &mut String, register: Register) -> Result<(), AllocError> {
+    let digit = char::from_digit(u32::from(register.number()), 8);
+    out.push('r')?;
+    out.push(digit.unwrap_or('0'))
+}
+
+// An arrow, how wide the load or store is, and where.
+fn push_place(out: &mut String, arrow: &str, width: Width, address: u16) -> Result<(), AllocError> {
+    out.push_str(arrow)?;
+    out.push_str(name(width))?;
+    out.push(' ')?;
+    push_word(out, address)
+}
+
+impl Effect {
+    /// Adds what it says.
+    pub fn push_to(self, out: &mut String) -> Result<(), AllocError> {
+        match self {
+            Effect::Register { target, value } => {
+                push_register(out, target)?;
+                out.push('=')?;
+                push_word(out, value)
+            }
             Effect::Load {
                 target,
                 width,
                 address,
-            } => write!(f, "r{}<-{} {address:04x}", target.number(), name(width)),
+            } => {
+                push_register(out, target)?;
+                push_place(out, "<-", width, address)
+            }
             Effect::Store {
                 width,
                 address,
                 value,
-            } => write!(f, "{value:04x}->{} {address:04x}", name(width)),
-            Effect::Next { address } => write!(f, "next={address:04x}"),
-            Effect::Halt => write!(f, "halt"),
+            } => {
+                push_word(out, value)?;
+                push_place(out, "->", width, address)
+            }
+            Effect::Next { address } => {
+                out.push_str("next=")?;
+                push_word(out, address)
+            }
+            Effect::Halt => out.push_str("halt"),
         }
     }
 }

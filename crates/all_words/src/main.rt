@@ -5,7 +5,7 @@
 mod effects;
 
 use assembler::{LineKind, LineRecord};
-use effects::effect_of;
+use effects::{effect_of, push_word};
 use lister::list;
 use roundtrip::assemble_back;
 use std::alloc::AllocError;
@@ -39,23 +39,27 @@ fn assembled(word: u16) -> Option<u16> {
 
 // The run of words that are not valid, if the words before were such.
 fn end_run(out: &mut String, first: Option<u16>, last: u16) -> Result<(), AllocError> {
-    match first {
-        Some(first) => writeln!(out, "{first:04x}-{last:04x} refused 16"),
-        None => Ok(()),
-    }
+    let Some(first) = first else {
+        return Ok(());
+    };
+    push_word(out, first)?;
+    out.push('-')?;
+    push_word(out, last)?;
+    out.push_str(" refused 16\n")
 }
 
 // The word's digits, its line without LF, and its two effects.
 fn push_listed(out: &mut String, word: u16, line: &str) -> Result<(), AllocError> {
-    let line = line.trim_end();
-    write!(out, "{word:04x}{line} ;")?;
+    push_word(out, word)?;
+    out.push_str(line.trim_end())?;
+    out.push_str(" ;")?;
     if let Some(instruction) = decode(word) {
         for registers in &REGISTERS {
-            let effect = effect_of(instruction, registers);
-            write!(out, " {effect}")?;
+            out.push(' ')?;
+            effect_of(instruction, registers).push_to(out)?;
         }
     }
-    writeln!(out)
+    out.push('\n')
 }
 
 fn push_all(out: &mut String) -> anyhow::Result<()> {

@@ -92,7 +92,8 @@ impl Digest {
         self.value = (self.value ^ n).wrapping_mul(16777619);
     }
 
-    // Sends a call and mixes in its answer.
+    // Sends a call and mixes in its answer. Inlined, it asks the bus at once for what the caller names.
+    #[inline(always)]
     fn send<B: Bus>(&mut self, bus: &mut B, call: BusCall) -> Result<BusReply, BusFault> {
         let said = answer(bus, call);
         self.mix(number(said));
