@@ -69,7 +69,7 @@ fn name(width: Width) -> &'static str {
 }
 
 /// Adds a word as four hexadecimal digits.
-// Stays: digit by digit, and pushed: a `Display` with `{:04x}` takes the whole program nearly twice as long.
+// Stays: digit by digit, and pushed: a `Display` with `{:04x}` takes nearly as long again as all else that is printed here.
 pub fn push_word(out: &mut String, word: u16) -> Result<(), AllocError> {
     for place in [12, 8, 4, 0] {
         let digit = char::from_digit(u32::from(word >> place) % 16, 16);
